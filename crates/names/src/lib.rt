@@ -1,0 +1,1 @@
+// Names of nodes and properties, paths, and their order.

@@ -1,0 +1,1 @@
+// The model of a tree, and its laws.
