@@ -1,0 +1,40 @@
+-- The worked examples, each computed. Assumes nothing.
+use mathlib.Core.Path.{_≡_, refl}
+use Rattle.names.specs.Names.{nodeByte, propertyByte, propertyName, nodeName}
+use Rattle.names.specs.Paths.{parts, pathText, stem, behindLast, parent}
+use Rattle.tree.specs.Numbers.{be32}
+use Rattle.overlay_rules.specs.Texts.{zeroEnded, split, digits, decimal, behind}
+use Rattle.overlay_rules.specs.Overlays.{valueAt, fragmentNodes, bodyEntries, strings, spots, numbersFrom, labelsOf, cellsOf, targetOf, overlayOf}
+use Rattle.overlay_rules.specs.Checks.{listedFrom, bodyHandles, handleFault, cellFault, check}
+use Rattle.overlay_rules.specs.CheckExamples.{Check-examples}
+
+pub check-examples : Check-examples
+unfolding nodeByte propertyByte propertyName nodeName parts pathText stem behindLast parent be32 zeroEnded split digits decimal behind valueAt fragmentNodes bodyEntries strings spots numbersFrom labelsOf cellsOf targetOf overlayOf listedFrom bodyHandles handleFault cellFault check
+check-examples = record {
+  listed = refl;
+  passes = refl;
+  zero-handle = refl;
+  short-handle = refl;
+  twin-handle = refl;
+  empty = refl;
+  special = refl;
+  no-target = refl;
+  one-target = refl;
+  both-targets = refl;
+  short-target = refl;
+  no-path = refl;
+  at-four = refl;
+  at-five = refl;
+  zeros = refl;
+  colons = refl;
+  absent = refl;
+  local = refl;
+  foreign = refl;
+  past = refl;
+  odd = refl;
+  twice = refl;
+  names-body = refl;
+  names-fragment = refl;
+  no-zero = refl;
+  bad-label = refl;
+}
