@@ -1,5 +1,9 @@
 pub mod Texts
 pub mod Overlays
 pub mod Checks
+pub mod Queries
+pub mod Plans
+pub mod Records
 pub mod Samples
 pub mod CheckExamples
+pub mod PlanExamples
