@@ -4,6 +4,7 @@ pub mod Checks
 pub mod Queries
 pub mod Plans
 pub mod Records
+pub mod Laws
 pub mod Samples
 pub mod CheckExamples
 pub mod PlanExamples

@@ -32,11 +32,15 @@ abbrev pub markOf : Tree → Place → Mark
 markOf t (p, None) = created
 markOf t (p, Some n) = earlier (look t (p, Some n))
 
+abbrev pub readNote : Place → Note
+readNote k = record { place = k; mark = wasRead }
+
+abbrev pub writeNote : Tree → Entry → Note
+writeNote t e = record { place = e .place; mark = markOf t (e .place) }
+
 -- the entries of a plan, t being the tree before the merge
 unfoldable pub notes : Plan → Tree → List Note
-notes p t =
-    map (λ k. record { place = k; mark = wasRead }) (distinct [] (p .reads))
-    ++ map (λ e. record { place = e .place; mark = markOf t (e .place) }) (p .writes)
+notes p t = map readNote (distinct [] (p .reads)) ++ map (writeNote t) (p .writes)
 
 -- ---- restoring
 

@@ -1,6 +1,7 @@
 // The rules of overlays, as definitions in specs/. This code only names the theorems, so that the check demands their proofs.
 ghost use Rattle.overlay_rules.specs.CheckExamples.{Check-examples};
 ghost use Rattle.overlay_rules.specs.PlanExamples.{Plan-examples};
+ghost use Rattle.overlay_rules.specs.Laws.{Asks-what-it-reads, Decided-by-reads};
 
 // The check of small overlays, one for each refusal, computed.
 pub fn check_examples_stand() -> u8
@@ -12,6 +13,20 @@ pub fn check_examples_stand() -> u8
 // A plan with filled and raised cells, and one plan for each refusal, computed.
 pub fn plan_examples_stand() -> u8
     ensures { λ _. ⌜ Plan-examples ⌝ }
+{
+    0
+}
+
+// What a plan asks of the tree is what the rules say it reads, and what it writes.
+pub fn asks_what_it_reads() -> u8
+    ensures { λ _. ⌜ Asks-what-it-reads ⌝ }
+{
+    0
+}
+
+// A plan is decided by what it asks: two trees that agree there give the same plan.
+pub fn decided_by_reads() -> u8
+    ensures { λ _. ⌜ Decided-by-reads ⌝ }
 {
     0
 }
