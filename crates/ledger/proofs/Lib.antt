@@ -1,2 +1,4 @@
 pub mod Examples
+pub mod Keeping
+pub mod Sockets
 pub mod Striking

@@ -1,7 +1,9 @@
 pub mod Asking
+pub mod Checking
 pub mod Examples
 pub mod Journals
 pub mod Lists
 pub mod Looks
 pub mod Planning
+pub mod Rules
 pub mod Touching
