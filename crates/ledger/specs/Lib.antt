@@ -1,3 +1,4 @@
 pub mod Ledgers
 pub mod Invariants
+pub mod Promises
 pub mod Examples

@@ -1,0 +1,105 @@
+-- An unplug of a held socket is granted exactly when no later line touches what its line wrote. Assumes nothing.
+use mathlib.Core.Path.{_≡_, refl, sym, ap, subst, _∙_}
+use mathlib.Core.Bool.{Bool, true, false, cond, _&&_, _||_, true≢false}
+use mathlib.Core.List.{List, [], _∷_, _++_}
+use mathlib.Core.Logic.{_⊎_, inl, inr, ⊎-elim}
+use Prim.Native.Nat.{ℕ, _≤_}
+use lib.Dec.{ltb}
+use Rattle.std.specs.declared.option.Option.{Option}
+use Rattle.std.specs.declared.option.Option.the-variants.{None, Some}
+use Rattle.std.proofs.shelf.Tests.{cond-true, cond-false, le-ltb}
+use Rattle.tree.specs.Places.{Place}
+use Rattle.tree.specs.Trees.{Tree}
+use Rattle.overlay_rules.specs.Laws.{In}
+use Rattle.overlay_rules.specs.Overlays.{samePlace}
+use Rattle.overlay_rules.specs.Plans.{Plan}
+use Rattle.overlay_rules.specs.Records.{Note, written, wrote, touches}
+use Rattle.overlay_rules.proofs.Lists.{some-true, some-in, none-some}
+use Rattle.overlay_rules.proofs.Looks.{place-from, same-place}
+use Rattle.ledger.specs.Ledgers.{Line, mergeAll, room, Socket, empty, held, shelved, Ledger, socketAt, parts, blocker, unplug, Answer, granted, refused, bySocket, no, strikeBy, unplugBy, step}
+use Rattle.ledger.specs.Invariants.{Line-at, Made, occupied, Kept}
+use Rattle.ledger.specs.Promises.{Can-be-done, Each-can-be-done, Touches, None-touches, Unplugs}
+use Rattle.ledger.proofs.Sockets.{Found, room-front}
+use Rattle.ledger.proofs.Keeping.{mine}
+use Rattle.ledger.proofs.Striking.{all-join}
+
+written-at : (b : Bool) (k j : Place) → cond b (samePlace k j) false ≡ true → (b ≡ true) × (k ≡ j)
+written-at true k j h = (refl, place-from k j h)
+written-at false k j h = absurd (true≢false (sym h))
+
+pub touches-true : (x y : Line) → touches (x .entries) (y .entries) ≡ true → Touches y x
+touches-true x y h =
+    let a = some-true (λ n. wrote (x .entries) (n .place)) (y .entries) h in
+    let b = some-true (λ m. cond (written (m .mark)) (samePlace (m .place) (a .0 .place)) false) (x .entries) (a .2) in
+    let c = written-at (written (b .0 .mark)) (b .0 .place) (a .0 .place) (b .2) in
+    (a .0, b .0, a .1, b .1, c .0, sym (c .1))
+
+pub true-touches : (x y : Line) → Touches y x → touches (x .entries) (y .entries) ≡ true
+true-touches x y (n, m, i, j, w, e) =
+    some-in (λ n. wrote (x .entries) (n .place)) n (y .entries) i
+    (some-in (λ m. cond (written (m .mark)) (samePlace (m .place) (n .place)) false) m (x .entries) j
+    (cond-true (written (m .mark)) _ _ w ∙ ap (samePlace (m .place)) e ∙ same-place (m .place)))
+
+not-touched : (x y : Line) → (Touches y x → ⊥) → touches (x .entries) (y .entries) ≡ false
+not-touched x y n = go (touches (x .entries) (y .entries)) refl
+  where
+    go : (b : Bool) → touches (x .entries) (y .entries) ≡ b → touches (x .entries) (y .entries) ≡ false
+    go true e = absurd (n (touches-true x y e))
+    go false e = e
+
+-- nobody blocks
+pub free-none : (x : Line) (ls : List Line) → None-touches ls x → blocker (x .entries) ls ≡ None
+unfolding blocker
+free-none x [] n = refl
+free-none x (l ∷ ls) n = cond-false _ _ _ (not-touched x l (n l (inl refl))) ∙ free-none x ls (λ y i. n y (inr i))
+
+-- the earliest blocks
+first-blocks : (x : Line) (ys : List Line) (y : Line) (zs : List Line) → None-touches ys x → Touches y x → blocker (x .entries) (ys ++ (y ∷ zs)) ≡ Some (y .socket)
+unfolding blocker
+first-blocks x [] y zs n h = cond-true _ _ _ (true-touches x y h)
+first-blocks x (w ∷ ys) y zs n h = cond-false _ _ _ (not-touched x w (n w (inl refl))) ∙ first-blocks x ys y zs (λ z i. n z (inr i)) h
+
+pub unplugs : (g : Ledger) → Kept g → (n k : ℕ) → 4096 ≤ n → socketAt g k ≡ held → Unplugs g n k
+unfolding step
+unplugs g kept n k long s =
+    let f = mine g kept k (ap occupied s) in
+    let e : step g (unplug n k) ≡ strikeBy g k (f .before, f .mine, f .later) (blocker (f .mine .entries) (f .later)) =
+    cond-false _ _ _ (le-ltb n 4096 long)
+    ∙ ap (λ q. bySocket q (no g 39 k) (unplugBy g k (parts k (g .lines))) (no g 39 k)) s
+    ∙ ap (unplugBy g k) (f .at) in
+    record {
+      before = f .before;
+      mine = f .mine;
+      later = f .later;
+      lines = f .lines;
+      socket = f .socket;
+      free = λ h. ap (λ z. z .0) (e ∙ ap (strikeBy g k (f .before, f .mine, f .later)) (free-none (f .mine) (f .later) h));
+      blocked = λ ys y zs q h w. ap (λ z. z .0) (e ∙ ap (λ z. strikeBy g k (f .before, f .mine, f .later) (blocker (f .mine .entries) z)) q ∙ ap (strikeBy g k (f .before, f .mine, f .later)) (first-blocks (f .mine) ys y zs h w));
+    }
+
+-- ---- each merge can be done
+
+pub made-at : (ks : List Line) (t : Tree) (l : Line) (ls : List Line) → Made t (ks ++ (l ∷ ls)) → (p : Plan) × Line-at (mergeAll t ks) l p
+unfolding Made mergeAll
+made-at [] t l ls m = m .0
+made-at (k ∷ ks) t l ls m = made-at ks _ l ls (m .1)
+
+pub made-behind : (ks : List Line) (t : Tree) (ls : List Line) → Made t (ks ++ ls) → Made (mergeAll t ks) ls
+unfolding Made mergeAll
+made-behind [] t ls m = m
+made-behind (k ∷ ks) t ls m = made-behind ks _ ls (m .1)
+
+cons-append : (ks : List Line) (l : Line) (ls : List Line) → ks ++ (l ∷ ls) ≡ (ks ++ l ∷ []) ++ ls
+cons-append [] l ls = refl
+cons-append (k ∷ ks) l ls = ap (λ z. k ∷ z) (cons-append ks l ls)
+
+pub each-can-be-done : (g : Ledger) → Kept g → Each-can-be-done g
+each-can-be-done g kept before l later e =
+    let x = made-at before (g .base) l later (subst (Made (g .base)) e (kept .made)) in
+    record {
+      plan = x .0;
+      merges = x .1 .merges;
+      entries = x .1 .entries;
+      share = x .1 .share;
+      fits = room-front (g .base) (before ++ l ∷ []) later (subst (λ z. room (g .base) z ≡ true) (e ∙ cons-append before l later) (kept .fits));
+    }

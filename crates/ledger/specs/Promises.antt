@@ -1,0 +1,78 @@
+-- The promise over every history, in words of the subject. Assumes nothing.
+use mathlib.Core.Path.{_≡_}
+use mathlib.Core.Bool.{Bool, true, false}
+use mathlib.Core.List.{List, [], _∷_, _++_}
+use Prim.Native.Nat.{ℕ, _+_, _≤_, _<_}
+use lib.ListN.{length}
+use Rattle.std.specs.declared.option.Option.{Option}
+use Rattle.std.specs.declared.option.Option.the-variants.{None, Some}
+use Rattle.std.specs.declared.result.Result.the-variants.{Ok}
+use Rattle.std.specs.Finite.{All}
+use Rattle.tree.specs.Entries.{Entry}
+use Rattle.tree.specs.Numbers.{be32}
+use Rattle.tree.specs.Phandles.{phandleRule, largestPhandle}
+use Rattle.tree.specs.Places.{Bytes, Place}
+use Rattle.tree.specs.Trees.{Tree, look, Sound}
+use Rattle.overlay_rules.specs.Laws.{In, Unique}
+use Rattle.overlay_rules.specs.Overlays.{phandleAt}
+use Rattle.overlay_rules.specs.Plans.{Plan, Reference}
+use Rattle.overlay_rules.specs.Queries.{run}
+use Rattle.overlay_rules.specs.Records.{Note, notes, written, wrote, restore}
+use Rattle.ledger.specs.Ledgers.{Line, planAt, merge, mergeAll, room, held, Ledger, ledgerTree, socketAt, Call, plug, unplug, Answer, plugged, granted, refused, step, Book, shut, opened, call, history}
+use Rattle.ledger.specs.Invariants.{Fit, Fit-call, Kept}
+
+-- ---- the tree is explained by the lines
+
+-- none of the refusals 32 to 38 applies to the line's merge behind the lines before it, at its offset; and its record is that merge's
+pub record Can-be-done (base : Tree) (before : List Line) (l : Line) : Type 0 where
+  pub plan : Plan
+  pub merges : run (mergeAll base before) (planAt (l .overlay) (l .offset)) ≡ Ok plan
+  pub fits : room base (before ++ l ∷ []) ≡ true
+  pub entries : l .entries ≡ notes plan (mergeAll base before)
+  pub share : l .share ≡ plan .share
+
+abbrev pub Each-can-be-done : Ledger → Type 0
+Each-can-be-done g = (before : List Line) (l : Line) (after : List Line) → g .lines ≡ before ++ (l ∷ after) → Can-be-done (g .base) before l
+
+-- ---- an unplug is granted exactly when no later line touches what the socket's line wrote
+
+abbrev pub Touches : Line → Line → Type 0
+Touches y x = (n : Note) × (m : Note) × In n (y .entries) × In m (x .entries) × (written (m .mark) ≡ true) × (n .place ≡ m .place)
+
+abbrev pub None-touches : List Line → Line → Type 0
+None-touches ys x = (y : Line) → In y ys → Touches y x → ⊥
+
+-- the line of a held socket, and what an unplug of it answers
+pub record Unplugs (g : Ledger) (n k : ℕ) : Type 0 where
+  pub before : List Line
+  pub mine : Line
+  pub later : List Line
+  pub lines : g .lines ≡ before ++ (mine ∷ later)
+  pub socket : mine .socket ≡ k
+  -- none touches: granted
+  pub free : None-touches later mine → step g (unplug n k) .0 ≡ granted
+  -- one does: refused, at the socket of the earliest
+  pub blocked : (ys : List Line) (y : Line) (zs : List Line) → later ≡ ys ++ (y ∷ zs) → None-touches ys mine → Touches y mine → step g (unplug n k) .0 ≡ refused 40 (y .socket)
+
+-- ---- standing references
+
+-- a cell that a plugged overlay filled, whose property no later one has set
+pub record Stands (g : Ledger) (r : Reference) : Type 0 where
+  pub before : List Line
+  pub line : Line
+  pub later : List Line
+  pub lines : g .lines ≡ before ++ (line ∷ later)
+  pub plan : Plan
+  pub merges : run (mergeAll (g .base) before) (planAt (line .overlay) (line .offset)) ≡ Ok plan
+  pub refers : In r (plan .references)
+  pub unset : All (λ y. wrote (y .entries) (r .place) ≡ false) later
+
+-- its number is the phandle of one node, and that node is the one it was meant for
+pub record Refers (t : Tree) (r : Reference) : Type 0 where
+  pub value : Bytes
+  pub value-is : look t (r .place) ≡ Some value
+  pub within : r .offset + 4 ≤ length value
+  pub handle : Bytes
+  pub handle-is : look t (phandleAt (r .meant)) ≡ Some handle
+  pub number : be32 value (r .offset) ≡ be32 handle 0
+  pub only : (q w : Bytes) → look t (phandleAt q) ≡ Some w → be32 w 0 ≡ be32 value (r .offset) → q ≡ r .meant
