@@ -13,7 +13,7 @@ use Rattle.tree.specs.Numbers.{be32}
 use Rattle.tree.specs.Phandles.{phandleRule, largestPhandle}
 use Rattle.tree.specs.Places.{Bytes, Place}
 use Rattle.tree.specs.Trees.{Tree, look, Sound}
-use Rattle.overlay_rules.specs.Laws.{In, Unique}
+use Rattle.overlay_rules.specs.Laws.{In, Unique, Points}
 use Rattle.overlay_rules.specs.Overlays.{phandleAt}
 use Rattle.overlay_rules.specs.Plans.{Plan, Reference}
 use Rattle.overlay_rules.specs.Queries.{run}
@@ -69,10 +69,5 @@ pub record Stands (g : Ledger) (r : Reference) : Type 0 where
 
 -- its number is the phandle of one node, and that node is the one it was meant for
 pub record Refers (t : Tree) (r : Reference) : Type 0 where
-  pub value : Bytes
-  pub value-is : look t (r .place) ≡ Some value
-  pub within : r .offset + 4 ≤ length value
-  pub handle : Bytes
-  pub handle-is : look t (phandleAt (r .meant)) ≡ Some handle
-  pub number : be32 value (r .offset) ≡ be32 handle 0
-  pub only : (q w : Bytes) → look t (phandleAt q) ≡ Some w → be32 w 0 ≡ be32 value (r .offset) → q ≡ r .meant
+  pub points : Points t r
+  pub only : (q w : Bytes) → look t (phandleAt q) ≡ Some w → be32 w 0 ≡ be32 (points .value) (r .offset) → q ≡ r .meant

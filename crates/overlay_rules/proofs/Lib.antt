@@ -1,9 +1,13 @@
 pub mod Asking
+pub mod Cells
 pub mod Checking
 pub mod Examples
+pub mod Filling
 pub mod Journals
+pub mod Listing
 pub mod Lists
 pub mod Looks
 pub mod Planning
+pub mod References
 pub mod Rules
 pub mod Touching

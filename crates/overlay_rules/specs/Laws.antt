@@ -3,7 +3,8 @@ use mathlib.Core.Path.{_≡_}
 use mathlib.Core.Bool.{Bool, true, false}
 use mathlib.Core.List.{List, [], _∷_}
 use mathlib.Core.Logic.{_⊎_}
-use Prim.Native.Nat.{ℕ}
+use Prim.Native.Nat.{ℕ, _+_, _≤_}
+use lib.ListN.{length}
 use Rattle.std.specs.declared.option.Option.{Option}
 use Rattle.std.specs.declared.option.Option.the-variants.{None, Some}
 use Rattle.std.specs.Finite.{All}
@@ -15,7 +16,7 @@ use Rattle.tree.specs.Places.{Bytes, Place, order}
 use Rattle.tree.specs.Trees.{Tree, look}
 use Rattle.std.specs.declared.result.Result.the-variants.{Ok}
 use Rattle.overlay_rules.specs.Overlays.{phandleAt, Overlay}
-use Rattle.overlay_rules.specs.Plans.{Plan, plan}
+use Rattle.overlay_rules.specs.Plans.{Plan, Reference, plan}
 use Rattle.overlay_rules.specs.Queries.{run, asked}
 
 abbrev pub Rising : Tree → Type 0
@@ -65,3 +66,12 @@ Asks-what-it-reads = (t : Tree) (v : Overlay) (d : ℕ) (p : Plan) → run t (pl
 -- What a plan asks decides it: a tree that agrees at the places asked, and has no phandle more, gives the same plan.
 abbrev pub Decided-by-reads : Type 0
 Decided-by-reads = (s t : Tree) (v : Overlay) (d : ℕ) → Rising s → Rising t → Fewer s t → Unique t → All (Same-at s t) (asked t (plan v d)) → run s (plan v d) ≡ run t (plan v d)
+
+-- the four bytes of a reference are the phandle of the node that it is meant for
+pub record Points (t : Tree) (r : Reference) : Type 0 where
+  pub value : Bytes
+  pub value-is : look t (r .place) ≡ Some value
+  pub within : r .offset + 4 ≤ length value
+  pub handle : Bytes
+  pub handle-is : look t (phandleAt (r .meant)) ≡ Some handle
+  pub number : be32 value (r .offset) ≡ be32 handle 0
