@@ -1,5 +1,6 @@
 pub mod Examples
 pub mod Keeping
 pub mod Sockets
+pub mod Standing
 pub mod Striking
 pub mod Unplugging

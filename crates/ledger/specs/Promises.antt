@@ -11,14 +11,14 @@ use Rattle.std.specs.Finite.{All}
 use Rattle.tree.specs.Entries.{Entry}
 use Rattle.tree.specs.Numbers.{be32}
 use Rattle.tree.specs.Phandles.{phandleRule, largestPhandle}
-use Rattle.tree.specs.Places.{Bytes, Place}
+use Rattle.tree.specs.Places.{Bytes, Place, nodeAt}
 use Rattle.tree.specs.Trees.{Tree, look, Sound}
 use Rattle.overlay_rules.specs.Laws.{In, Unique, Points}
-use Rattle.overlay_rules.specs.Overlays.{phandleAt}
+use Rattle.overlay_rules.specs.Overlays.{phandleAt, symbolsPath}
 use Rattle.overlay_rules.specs.Plans.{Plan, Reference}
 use Rattle.overlay_rules.specs.Queries.{run}
 use Rattle.overlay_rules.specs.Records.{Note, notes, written, wrote, restore}
-use Rattle.ledger.specs.Ledgers.{Line, planAt, merge, mergeAll, room, held, Ledger, ledgerTree, socketAt, Call, plug, unplug, Answer, plugged, granted, refused, step, Book, shut, opened, call, history}
+use Rattle.ledger.specs.Ledgers.{Line, planAt, merge, mergeAll, room, held, Ledger, ledgerTree, fresh, socketAt, Call, plug, unplug, Answer, plugged, granted, refused, step, Book, shut, opened, call, history}
 use Rattle.ledger.specs.Invariants.{Fit, Fit-call, Kept}
 
 -- ---- the tree is explained by the lines
@@ -71,3 +71,31 @@ pub record Stands (g : Ledger) (r : Reference) : Type 0 where
 pub record Refers (t : Tree) (r : Reference) : Type 0 where
   pub points : Points t r
   pub only : (q w : Bytes) → look t (phandleAt q) ≡ Some w → be32 w 0 ≡ be32 (points .value) (r .offset) → q ≡ r .meant
+
+-- ---- the promise
+
+pub record Promise (g : Ledger) : Type 0 where
+  -- the tree is the base with the lines merged in plugging order, each at its own offset, and each of these merges can be done
+  pub each : Each-can-be-done g
+  -- no two nodes share a phandle, and each is valid
+  pub rule : phandleRule (ledgerTree g) ≡ true
+  -- an unplug of a held socket is granted exactly when no later line touches what its line wrote
+  pub unplugs : (n k : ℕ) → 4096 ≤ n → socketAt g k ≡ held → Unplugs g n k
+  -- every standing reference is the phandle of the node that it was meant for
+  pub refers : (r : Reference) → Stands g r → Refers (ledgerTree g) r
+
+-- a stack that is still closed has left the tree as it was
+abbrev pub Promised : Tree → Book → Type 0
+Promised t (shut u) = u ≡ t
+Promised t (opened g) = (g .base ≡ t) × Promise g
+
+-- whatever the calls and their arguments, in whatever order
+abbrev pub Every-history : Type 0
+Every-history = (t : Tree) (calls : List Call) → Sound t → All Fit-call calls → Promised t (history (shut t) calls)
+
+-- ---- the invariant that code has to match
+
+pub record Invariant : Type 0 where
+  pub opens : (t : Tree) (v : Bytes) → Sound t → phandleRule t ≡ true → look t (nodeAt symbolsPath) ≡ Some v → Kept (fresh t)
+  pub steps : (g : Ledger) → Kept g → (c : Call) → Fit-call c → Kept (step g c .1)
+  pub promises : (g : Ledger) → Kept g → Promise g
