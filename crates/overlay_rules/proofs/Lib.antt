@@ -3,11 +3,14 @@ pub mod Cells
 pub mod Checking
 pub mod Examples
 pub mod Filling
+pub mod Growing
 pub mod Journals
 pub mod Listing
 pub mod Lists
 pub mod Looks
+pub mod Pathing
 pub mod Planning
 pub mod References
 pub mod Rules
+pub mod Shapes
 pub mod Touching

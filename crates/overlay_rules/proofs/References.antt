@@ -130,14 +130,14 @@ module _ (t : Tree) (es : List Entry) (d : ℕ) (p : Plan) (w : wellListed es �
       (put-or-there t (images (m .env) d (m .ls) v) (m .ts) (m .touched) e j)
 
   -- the value of a body property, by its place in the overlay
-  item-value : (i : Item) (n x : Bytes) → In i (overlayOf es .items) → i .place .1 ≡ Some n → valueAt es (propertyAt (i .place .0) n) ≡ Some x → x ≡ i .value
+  pub item-value : (i : Item) (n x : Bytes) → In i (overlayOf es .items) → i .place .1 ≡ Some n → valueAt es (propertyAt (i .place .0) n) ≡ Some x → x ≡ i .value
   item-value i n x h q e =
       let f = item-from es i h in
       let l = value-at es (f .0) w (body-listed es (f .0) (f .1) .0) in
       let k : f .0 .place ≡ propertyAt (i .place .0) n = ap (λ z. z .place) (sym (f .2)) ∙ (λ j. (i .place .0, q j)) in
       some-one (sym e ∙ ap (valueAt es) (sym k) ∙ l) ∙ ap (λ z. z .value) (sym (f .2))
 
-  item-cells : (i : Item) (n : Bytes) → In i (overlayOf es .items) → i .place .1 ≡ Some n → i .cells ≡ cellsOf es (i .place .0) n
+  pub item-cells : (i : Item) (n : Bytes) → In i (overlayOf es .items) → i .place .1 ≡ Some n → i .cells ≡ cellsOf es (i .place .0) n
   item-cells i n h q =
       let f = item-from es i h in
       ap (λ z. z .cells) (f .2) ∙ ap (λ z. cellsAt es (z .place)) (sym (f .2)) ∙ cells-at es (i .place) n q
