@@ -361,3 +361,173 @@ module _ (t : Tree) (es : List Entry) (d : ℕ) (p : Plan) (w : wellListed es �
       go : (b : Bool) → inBody (fragmentNodes es) (e .place .0) ≡ b → Next seen e → Rest e xs seen → Short (puts t (imagesOf (given (cond b (Some e) None) (picked xs)))) → Grows s (puts t (imagesOf (given (cond b (Some e) None) (picked xs))))
       go false b n ih ss = ih s r sub (seen-more s sub seen-ok (λ z y. absurd (true≢false (sym y ∙ b)))) ss
       go true b n ih ss = by-touch b n ih (putIn (touchOf t (imageOfEntry e) (imageOfEntry e .place))) (put-read t (imageOfEntry e) (imageOfEntry e .place) refl) ss
+
+  -- ---- symbols
+
+  -- the image of a body node is within the path limit
+  image-short : (q : Bytes) → inBody (fragmentNodes es) q ≡ true → isListed es (nodeAt q) ≡ true → length (imageOf (m .ls) q) ≤ 255
+  unfolding overlayOf
+  image-short q b l =
+      let v = is-some _ l in
+      let x = value-some es (nodeAt q) (v .0) (v .1) in
+      let bx : inBody (fragmentNodes es) (x .0 .place .0) ≡ true = ap (λ z. inBody (fragmentNodes es) (z .0)) (x .2) ∙ b in
+      let i = picked-in (x .0) (x .1) bx in
+      let E = imageOfEntry (x .0) in
+      let j = in-left E (map (imageEntry (m .env) d (m .ls)) (overlayOf es .items)) (map (symbolEntry (m .ls)) (overlayOf es .symbols)) (in-map (imageEntry (m .env) d (m .ls)) (itemOf es (x .0)) (overlayOf es .items) (in-map (itemOf es) (x .0) (bodyEntries es) i)) in
+      subst (λ z. length (imageOf (m .ls) (z .0)) ≤ 255) (x .2) (⊎-elim
+      (λ a. all-at (λ e. length (e .place .0) ≤ 255) E (pick putIn (m .ts)) (m .allows .short) a)
+      (λ a. leb-true _ _ (and-parts (leb (length (E .place .0)) 255) _ (sh .short (E .place) (a .1 .0) (a .1 .1)) .0))
+      (put-or-there t (images (m .env) d (m .ls) (overlayOf es)) (m .ts) (m .touched) E j))
+
+  symbol-fits : (y : Symbol) (s : Tree) → In y (overlayOf es .symbols) → look s (nodeAt symbolsPath) ≡ Some [] → Fits-in s (symbolEntry (m .ls) y)
+  symbol-fits y s i up =
+      let f = symbol-from es y c i in
+      let b = and-parts _ _ (f .body) in
+      let l = image-short (y .path) (b .0) (b .1) in
+      let len = length-append (imageOf (m .ls) (y .path)) (0 ∷ []) in
+      record {
+        named = ap namedPlace (sym (f .place)) ∙ good (f .entry) (f .listed) .named;
+        short = le-leb _ 4096 (omega (arith, len, l));
+        bare = λ z. absurd (some-none (y .label) z);
+        up = up;
+      }
+
+  grow-symbols : (ys : List Symbol) (s : Tree) → ((y : Symbol) → In y ys → In y (overlayOf es .symbols)) → Rising s → look s (nodeAt symbolsPath) ≡ Some [] → Grows s (puts t (map (symbolEntry (m .ls)) ys))
+  unfolding Grows
+  grow-symbols [] s inc r up = tt
+  grow-symbols (y ∷ ys) s inc r up =
+      let f = symbol-fits y s (inc y (inl refl)) up in
+      let e = symbolEntry (m .ls) y in
+      (f, grow-symbols ys (change s (e .place) (Some (e .value))) (λ z i. inc z (inr i)) (rises-put s e r) (node-put s e (nodeAt symbolsPath) r (f .bare) refl up))
+
+  -- ---- all of them
+
+  body-root : inBody (fragmentNodes es) root ≡ true → ⊥
+  body-root h =
+      let M = body-match root h in
+      let l = M .located in
+      let f = located-from l (M .listed) in
+      let x = behind-is (l .body) root (M .rest) (M .is) in
+      omega (arith, ap length (x .0), length-append (l .body) (M .rest), ap length (f .2), length-append (f .0 .place .0) (codes "/__overlay__"))
+
+  writes-puts : puts t (images (m .env) d (m .ls) (overlayOf es)) ≡ p .writes
+  writes-puts = ap (pick putIn) (touch-all t (images (m .env) d (m .ls) (overlayOf es)) (m .ts) (m .touched)) ∙ writes-is t (overlayOf es) d p m
+
+  writes-split : puts t (map (imageEntry (m .env) d (m .ls)) (overlayOf es .items)) ++ puts t (map (symbolEntry (m .ls)) (overlayOf es .symbols)) ≡ p .writes
+  writes-split = sym (puts-join t (map (imageEntry (m .env) d (m .ls)) (overlayOf es .items)) (map (symbolEntry (m .ls)) (overlayOf es .symbols))) ∙ writes-puts
+
+  grow-all : (xs : List Entry) → xs ≡ es → Short (puts t (imagesOf (picked xs))) → Grows t (puts t (imagesOf (picked xs)))
+  grow-all [] e ss = unfold Grows in tt
+  grow-all (x ∷ xs) e ss =
+      let wl = well x xs (ap wellListed e ∙ w) in
+      let no : inBody (fragmentNodes es) (x .place .0) ≡ false = not-root (inBody (fragmentNodes es) (x .place .0)) refl (ap (λ z. z .0) (wl .place)) in
+      let eq : puts t (imagesOf (picked (x ∷ xs))) ≡ puts t (imagesOf (picked xs)) = ap (λ b. puts t (imagesOf (given (cond b (Some x) None) (picked xs)))) no in
+      subst (Grows t) (sym eq) (grow-items xs (nodeAt root ∷ []) t (wl .rest) (λ y i. subst (In y) e (inr i)) (sh .rises) (λ j n h. h) start (subst Short eq ss))
+    where
+      not-root : (b : Bool) → inBody (fragmentNodes es) (x .place .0) ≡ b → x .place .0 ≡ root → inBody (fragmentNodes es) (x .place .0) ≡ false
+      not-root false h q = h
+      not-root true h q = absurd (body-root (ap (inBody (fragmentNodes es)) (sym q) ∙ h))
+
+      start : Seen t (nodeAt root ∷ [])
+      start k (inl q) b = absurd (body-root (ap (λ z. inBody (fragmentNodes es) (z .0)) (sym q) ∙ b))
+      start k (inr i) b = absurd i
+
+  pub plan-grows : look t (nodeAt symbolsPath) ≡ Some [] → Grows t (p .writes)
+  unfolding overlayOf bodyEntries
+  plan-grows sy =
+      let A = puts t (map (imageEntry (m .env) d (m .ls)) (overlayOf es .items)) in
+      let B = puts t (map (symbolEntry (m .ls)) (overlayOf es .symbols)) in
+      let short : Short (A ++ B) = subst Short (sym (writes-split ∙ sym (writes-is t (overlayOf es) d p m))) (m .allows .short) in
+      let g : Grows t A = grow-all es refl (lefts A B short) in
+      subst (Grows t) writes-split (grows-join A B t g (grow-symbols (overlayOf es .symbols) (apply A t) (λ y i. i) (rises-apply A t (sh .rises)) (node-stays A t (nodeAt symbolsPath) (sh .rises) g refl sy)))
+    where
+      lefts : (xs ys : List Entry) → Short (xs ++ ys) → Short xs
+      lefts [] ys h = tt
+      lefts (x ∷ xs) ys h = (h .0, lefts xs ys (h .1))
+
+  -- ---- the writes count no more than the share
+
+  -- an `__overlay__` has its target for an image, and that is there
+  top-there : (i : Item) → In i (overlayOf es .items) → (k : Place) → i .place ≡ k → belowTop (overlayOf es) i k ≡ None → (k .1 ≡ None) × (look t (imageOf (m .ls) (k .0), k .1) ≡ Some [])
+  unfolding overlayOf slashes
+  top-there i h (q, Some n) e b = let z : _≡_ {A = ℕ} 0 1 = cc in absurd (omega arith)
+  top-there i h (q, None) e b = go (some (λ f. sameBytes (f .body) q) (overlayOf es .fragments)) refl b
+    where
+      at-top : (f : Fragment) → In f (overlayOf es .fragments) → f .body ≡ q → look t (nodeAt (imageOf (m .ls) q)) ≡ Some []
+      at-top f j eq =
+          let x = in-map-from fragment f (fragmentNodes es) j in
+          let y = item-from es i h in
+          let bq : inBody (fragmentNodes es) q ≡ true = ap (λ z. inBody (fragmentNodes es) (z .0)) (sym e ∙ ap (λ z. z .place) (y .2)) ∙ body-listed es (y .0) (y .1) .1 in
+          let M = body-match q bq in
+          let l = M .located in
+          let g = located-from l (M .listed) in
+          let z = behind-is (l .body) q (M .rest) (M .is) in
+          let s1 = fragment-slashes es (x .0) w (x .1) in
+          let s2 = fragment-slashes es (g .0) w (g .1) in
+          let eb : q ≡ bodyPath (x .0 .place .0) = sym eq ∙ ap (λ z. z .body) (x .2) in
+          let sq : slashes q ≡ 2 = ap slashes eb ∙ s1 in
+          let sr : slashes q ≡ 2 + slashes (M .rest) = ap slashes (z .0) ∙ slashes-join (l .body) (M .rest) ∙ ap (λ u. u + slashes (M .rest)) (ap slashes (g .2) ∙ s2) in
+          image-top q M (no-rest (M .rest) (z .1) sq sr)
+        where
+          no-rest : (r : Bytes) → slashed r ≡ true → slashes q ≡ 2 → slashes q ≡ 2 + slashes r → r ≡ []
+          no-rest [] s a b = refl
+          no-rest (x ∷ r) s a b = absurd (omega (arith, a, b, ap (λ u. cond u 1 0 + slashes r) s))
+
+      go : (z : Bool) → some (λ f. sameBytes (f .body) q) (overlayOf es .fragments) ≡ z → cond z None (Some i) ≡ None → (_≡_ {A = Option Bytes} None None) × (look t (imageOf (m .ls) q, None) ≡ Some [])
+      go false a b = let z : _≡_ {A = ℕ} 0 1 = cc in absurd (omega arith)
+      go true a b = let f = some-true (λ f. sameBytes (f .body) q) (overlayOf es .fragments) a in (refl, at-top (f .0) (f .1) (sameBytes-decides (f .0 .body) q .0 (f .2)))
+
+  cost-items : (f : Place → Bytes → ℕ) (xs : List Item) → ((i : Item) → In i xs → In i (overlayOf es .items)) → total f (listed (puts t (map (imageEntry (m .env) d (m .ls)) xs))) ≤ total f (listed (map (imageEntry (m .env) d (m .ls)) (pick (λ i. belowTop (overlayOf es) i (i .place)) xs)))
+  unfolding total
+  cost-items f [] inc = omega arith
+  cost-items f (i ∷ xs) inc =
+      go (belowTop (overlayOf es) i (i .place)) refl (putIn (touchOf t (imageEntry (m .env) d (m .ls) i) (imageEntry (m .env) d (m .ls) i .place))) (put-read t (imageEntry (m .env) d (m .ls) i) (imageEntry (m .env) d (m .ls) i .place) refl) (cost-items f xs (λ j k. inc j (inr k)))
+    where
+      A : ℕ
+      A = total f (listed (puts t (map (imageEntry (m .env) d (m .ls)) xs)))
+
+      put-cost : (o : Option Entry) → o ≡ Some (imageEntry (m .env) d (m .ls) i) → total f (listed (given o (puts t (map (imageEntry (m .env) d (m .ls)) xs)))) ≡ f (imageEntry (m .env) d (m .ls) i .place) (imageEntry (m .env) d (m .ls) i .value) + total f (listed (puts t (map (imageEntry (m .env) d (m .ls)) xs)))
+      put-cost o e = ap (λ z. total f (listed (given z (puts t (map (imageEntry (m .env) d (m .ls)) xs))))) e
+
+      read-cost : (o : Option Entry) → o ≡ None → total f (listed (given o (puts t (map (imageEntry (m .env) d (m .ls)) xs)))) ≡ total f (listed (puts t (map (imageEntry (m .env) d (m .ls)) xs)))
+      read-cost o e = ap (λ z. total f (listed (given z (puts t (map (imageEntry (m .env) d (m .ls)) xs))))) e
+
+      below : (j : Item) → belowTop (overlayOf es) i (i .place) ≡ Some j → (k : Place) → i .place ≡ k → belowTop (overlayOf es) i k ≡ Some j → i ≡ j
+      below j e (q, Some n) ek h = cc
+      below j e (q, None) ek h = by (some (λ f. sameBytes (f .body) q) (overlayOf es .fragments)) h
+        where
+          by : (z : Bool) → cond z None (Some i) ≡ Some j → i ≡ j
+          by true h = let z : _≡_ {A = ℕ} 0 1 = cc in absurd (omega arith)
+          by false h = cc
+
+      go : (b : Option Item) → belowTop (overlayOf es) i (i .place) ≡ b → (o : Option Entry) → Put t (imageEntry (m .env) d (m .ls) i) o ⊎ Read t (imageEntry (m .env) d (m .ls) i) o
+          → total f (listed (puts t (map (imageEntry (m .env) d (m .ls)) xs))) ≤ total f (listed (map (imageEntry (m .env) d (m .ls)) (pick (λ i. belowTop (overlayOf es) i (i .place)) xs)))
+          → total f (listed (given o (puts t (map (imageEntry (m .env) d (m .ls)) xs)))) ≤ total f (listed (map (imageEntry (m .env) d (m .ls)) (given b (pick (λ i. belowTop (overlayOf es) i (i .place)) xs))))
+      go None eb o (inl u) ih = let x = top-there i (inc i (inl refl)) (i .place) refl eb in absurd (some-none [] (sym (x .1) ∙ u .absent (x .0)))
+      go None eb o (inr u) ih = omega (arith, ih, read-cost o (u .is))
+      go (Some j) eb o (inl u) ih =
+          let e = below j eb (i .place) refl eb in
+          let e2 : f (imageEntry (m .env) d (m .ls) i .place) (imageEntry (m .env) d (m .ls) i .value) ≡ f (imageEntry (m .env) d (m .ls) j .place) (imageEntry (m .env) d (m .ls) j .value) = ap (λ z. f (imageEntry (m .env) d (m .ls) z .place) (imageEntry (m .env) d (m .ls) z .value)) e in
+          omega (arith, ih, put-cost o (u .is), e2)
+      go (Some j) eb o (inr u) ih = omega (arith, ih, read-cost o (u .is))
+
+  symbols-put : (ys : List Symbol) → puts t (map (symbolEntry (m .ls)) ys) ≡ map (symbolEntry (m .ls)) ys
+  symbols-put [] = refl
+  symbols-put (y ∷ ys) = ap (λ z. symbolEntry (m .ls) y ∷ z) (symbols-put ys)
+
+  pub share-is : shareOf (listed (shared (m .env) d (m .ls) (overlayOf es))) ≡ p .share
+  unfolding planned
+  share-is = ap (λ z. z .share) (m .is)
+
+  pub cost-share : (f : Place → Bytes → ℕ) → total f (listed (p .writes)) ≤ total f (listed (shared (m .env) d (m .ls) (overlayOf es)))
+  cost-share f =
+      let A = puts t (map (imageEntry (m .env) d (m .ls)) (overlayOf es .items)) in
+      let B = puts t (map (symbolEntry (m .ls)) (overlayOf es .symbols)) in
+      let C = map (imageEntry (m .env) d (m .ls)) (pick (λ i. belowTop (overlayOf es) i (i .place)) (overlayOf es .items)) in
+      let D = map (symbolEntry (m .ls)) (overlayOf es .symbols) in
+      let e1 = ap (λ z. total f (listed z)) writes-split in
+      let e2 = cost-join f A B in
+      let e3 = cost-join f C D in
+      let e4 = ap (λ z. total f (listed z)) (symbols-put (overlayOf es .symbols)) in
+      let le = cost-items f (overlayOf es .items) (λ i j. j) in
+      omega (arith, e1, e2, e3, e4, le)
