@@ -1,6 +1,7 @@
 pub mod Examples
 pub mod Keeping
 pub mod Sockets
+pub mod Sounding
 pub mod Standing
 pub mod Striking
 pub mod Unplugging

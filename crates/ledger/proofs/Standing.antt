@@ -27,6 +27,7 @@ use Rattle.ledger.specs.Ledgers.{Line, merge, mergeAll, Ledger, ledgerTree, Ca
 use Rattle.ledger.specs.Invariants.{Fit-call, Line-at, Made, Kept}
 use Rattle.ledger.specs.Promises.{Stands, Refers, Promise, Promised, Every-history, Invariant}
 use Rattle.ledger.proofs.Keeping.{fresh-kept, step-kept, Book-of, history-kept}
+use Rattle.ledger.proofs.Sounding.{tree-sound}
 use Rattle.ledger.proofs.Striking.{merge-is, line-plan, rises-merge, rises-all, all-join}
 use Rattle.ledger.proofs.Unplugging.{unplugs, made-at, made-behind, each-can-be-done}
 
@@ -98,6 +99,7 @@ module _ (g : Ledger) (kept : Kept g) where
   pub promise : Promise g
   promise = record {
     each = each-can-be-done g kept;
+    sound = tree-sound g kept;
     rule = rule-kept;
     unplugs = λ n k. unplugs g kept n k;
     refers = refers;

@@ -1,9 +1,10 @@
 -- The promise over every history, in words of the subject. Assumes nothing.
 use mathlib.Core.Path.{_≡_}
 use mathlib.Core.Bool.{Bool, true, false}
+use mathlib.Core.Logic.{_⊎_}
 use mathlib.Core.List.{List, [], _∷_, _++_}
 use Prim.Native.Nat.{ℕ, _+_, _≤_, _<_}
-use lib.ListN.{length}
+use lib.ListN.{length, drop}
 use Rattle.std.specs.declared.option.Option.{Option}
 use Rattle.std.specs.declared.option.Option.the-variants.{None, Some}
 use Rattle.std.specs.declared.result.Result.the-variants.{Ok}
@@ -12,13 +13,13 @@ use Rattle.tree.specs.Entries.{Entry}
 use Rattle.tree.specs.Numbers.{be32}
 use Rattle.tree.specs.Phandles.{phandleRule, largestPhandle}
 use Rattle.tree.specs.Places.{Bytes, Place, nodeAt}
-use Rattle.tree.specs.Trees.{Tree, look, Sound}
+use Rattle.tree.specs.Trees.{Tree, look, upPlace, Sound}
 use Rattle.overlay_rules.specs.Laws.{In, Unique, Points}
 use Rattle.overlay_rules.specs.Overlays.{phandleAt, symbolsPath}
-use Rattle.overlay_rules.specs.Plans.{Plan, Reference}
+use Rattle.overlay_rules.specs.Plans.{Plan, Reference, apply}
 use Rattle.overlay_rules.specs.Queries.{run}
-use Rattle.overlay_rules.specs.Records.{Note, notes, written, wrote, restore}
-use Rattle.ledger.specs.Ledgers.{Line, planAt, merge, mergeAll, room, held, Ledger, ledgerTree, fresh, socketAt, Call, plug, unplug, Answer, plugged, granted, refused, step, Book, shut, opened, call, history}
+use Rattle.overlay_rules.specs.Records.{Note, created, notes, written, wrote, restore}
+use Rattle.ledger.specs.Ledgers.{Line, line, planAt, merge, mergeAll, room, held, Ledger, ledgerTree, fresh, socketAt, Call, plug, unplug, Answer, plugged, granted, refused, step, Book, shut, opened, call, history}
 use Rattle.ledger.specs.Invariants.{Fit, Fit-call, Kept}
 
 -- ---- the tree is explained by the lines
@@ -77,7 +78,9 @@ pub record Refers (t : Tree) (r : Reference) : Type 0 where
 pub record Promise (g : Ledger) : Type 0 where
   -- the tree is the base with the lines merged in plugging order, each at its own offset, and each of these merges can be done
   pub each : Each-can-be-done g
-  -- no two nodes share a phandle, and each is valid
+  -- the tree is one by the rules, within the limits
+  pub sound : Sound (ledgerTree g)
+  -- each phandle is valid, and no two nodes share one
   pub rule : phandleRule (ledgerTree g) ≡ true
   -- an unplug of a held socket is granted exactly when no later line touches what its line wrote
   pub unplugs : (n k : ℕ) → 4096 ≤ n → socketAt g k ≡ held → Unplugs g n k
@@ -92,6 +95,45 @@ Promised t (opened g) = (g .base ≡ t) × Promise g
 -- whatever the calls and their arguments, in whatever order
 abbrev pub Every-history : Type 0
 Every-history = (t : Tree) (calls : List Call) → Sound t → All Fit-call calls → Promised t (history (shut t) calls)
+
+-- ---- striking a line that no later one touches
+
+-- the line x, between those before and those later, is restored by its record
+pub record Strikes (g : Ledger) (before : List Line) (x : Line) (later : List Line) : Type 0 where
+  -- each later line has the plan that it had
+  pub same : (ys : List Line) (y : Line) (zs : List Line) → later ≡ ys ++ (y ∷ zs) → run (mergeAll (g .base) (before ++ ys)) (planAt (y .overlay) (y .offset)) ≡ run (mergeAll (g .base) (before ++ (x ∷ ys))) (planAt (y .overlay) (y .offset))
+  -- and the others can all be done, with the record entries that they had
+  pub each : (ys : List Line) (y : Line) (zs : List Line) → before ++ later ≡ ys ++ (y ∷ zs) → Can-be-done (g .base) ys y
+  -- restoring the entries, the last first, gives the tree of the others
+  pub tree : restore (x .entries) (ledgerTree g) ≡ mergeAll (g .base) (before ++ later)
+  -- and at every step of that the tree is one by the rules: within the limits, each place's parent there
+  pub way : (i : ℕ) → Sound (restore (drop i (x .entries)) (ledgerTree g))
+  -- a node to be dropped has neither children nor properties
+  pub drops : (i : ℕ) (n : Note) (ns : List Note) → drop i (x .entries) ≡ n ∷ ns → n .mark ≡ created → (k : Place) (v : Bytes) → look (restore ns (ledgerTree g)) k ≡ Some v → upPlace k ≡ n .place → k ≡ n .place
+
+abbrev pub Striking : Type 0
+Striking = (g : Ledger) → Kept g → (before : List Line) (x : Line) (later : List Line) → g .lines ≡ before ++ (x ∷ later) → None-touches later x → Strikes g before x later
+
+-- ---- a plug: its offset, and the writes that it makes one after the other
+
+pub record Plugs (g : Ledger) (k : ℕ) (es : List Entry) (p : Plan) : Type 0 where
+  -- no phandle of the tree is above the offset, and every one that is new is
+  pub most : (q v : Bytes) → look (ledgerTree g) (phandleAt q) ≡ Some v → be32 v 0 ≤ largestPhandle (ledgerTree g)
+  pub above : (q v : Bytes) → look (apply (p .writes) (ledgerTree g)) (phandleAt q) ≡ Some v → (look (ledgerTree g) (phandleAt q) ≡ Some v) ⊎ (largestPhandle (ledgerTree g) < be32 v 0)
+  pub unique : Unique (apply (p .writes) (ledgerTree g))
+  -- every write finds a tree by the rules with what it hangs on, a node not yet there, and leaves a tree by the rules
+  pub ready : (ws : List Entry) (e : Entry) (vs : List Entry) → p .writes ≡ ws ++ (e ∷ vs) → Sound (apply ws (ledgerTree g)) × (look (apply ws (ledgerTree g)) (upPlace (e .place)) ≡ Some []) × (e .place .1 ≡ None → look (apply ws (ledgerTree g)) (e .place) ≡ None)
+  pub stays : (ws vs : List Entry) → p .writes ≡ ws ++ vs → Sound (apply ws (ledgerTree g))
+  -- what was at a place when it was written is what was there before the merge
+  pub earlier : (ws : List Entry) (e : Entry) (vs : List Entry) → p .writes ≡ ws ++ (e ∷ vs) → look (apply ws (ledgerTree g)) (e .place) ≡ look (ledgerTree g) (e .place)
+
+-- for every plug that the plan and the space allow
+abbrev pub Plugging : Type 0
+Plugging = (g : Ledger) → Kept g → (k : ℕ) (es : List Entry) (p : Plan) → Fit es → run (ledgerTree g) (planAt es (largestPhandle (ledgerTree g))) ≡ Ok p → room (g .base) (g .lines ++ line k es (largestPhandle (ledgerTree g)) (ledgerTree g) p ∷ []) ≡ true → Plugs g k es p
+
+-- an answered offset is the largest phandle of the tree
+abbrev pub Answered-offset : Type 0
+Answered-offset = (g : Ledger) (n k : ℕ) (es : List Entry) (j d : ℕ) → step g (plug n k es) .0 ≡ plugged j d → (j ≡ k) × (d ≡ largestPhandle (ledgerTree g))
 
 -- ---- the invariant that code has to match
 
