@@ -33,8 +33,8 @@ use Rattle.overlay_rules.proofs.Planning.{Planned, Allowed}
 use Rattle.overlay_rules.proofs.Touching.{writes-is, node-absent, plan-fewer, wrote-none, restore-writes}
 use Rattle.overlay_rules.proofs.Shapes.{Shape, shape-of, Grows, grown, grows-front, grows-back, node-stays, cost-join, total-apply, sound-from}
 use Rattle.overlay_rules.proofs.Growing.{plan-grows, share-is, cost-share}
-use Rattle.ledger.specs.Ledgers.{Line, merge, mergeAll, sum, room, blocker, Ledger, ledgerTree}
-use Rattle.ledger.specs.Invariants.{Line-at, Made, Kept}
+use Rattle.ledger.specs.Ledgers.{Line, line, planAt, merge, mergeAll, sum, room, blocker, Ledger, ledgerTree}
+use Rattle.ledger.specs.Invariants.{Fit, Line-at, Made, Kept}
 use Rattle.ledger.proofs.Sockets.{sum-join, Roomy, room-is}
 use Rattle.ledger.proofs.Striking.{merge-is, line-plan, rises-merge, rises-all, boot-all, all-join, follow, Followed}
 use Rattle.ledger.proofs.Unplugging.{made-at, made-behind}
@@ -93,7 +93,7 @@ module _ (c : Count) where
       let b = cost-line t l p s (m .0 .1) in
       omega (arith, ih, e, a, b)
 
-made-front : (ks ls : List Line) (t : Tree) → Made t (ks ++ ls) → Made t ks
+pub made-front : (ks ls : List Line) (t : Tree) → Made t (ks ++ ls) → Made t ks
 unfolding Made
 made-front [] ls t m = tt
 made-front (k ∷ ks) ls t m = (m .0, made-front ks ls (merge t (k .overlay) (k .offset)) (m .1))
@@ -242,3 +242,30 @@ module _ (g : Ledger) (kept : Kept g) where
             (omega (arith, at count-properties, b))
             (omega (arith, at count-weight, c)),
       )
+
+  -- the first writes of a plug leave a tree by the rules
+  pub push-sound : (k : ℕ) (es : List Entry) (p : Plan) → Fit es → run (ledgerTree g) (planAt es (largestPhandle (ledgerTree g))) ≡ Ok p → room (g .base) (g .lines ++ line k es (largestPhandle (ledgerTree g)) (ledgerTree g) p ∷ []) ≡ true → (ws vs : List Entry) → p .writes ≡ ws ++ vs → Sound (apply ws (ledgerTree g))
+  unfolding sum
+  push-sound k es p f h rm ws vs cut =
+      let t = ledgerTree g in
+      let l = line k es (largestPhandle t) t p in
+      let m : Line-at t l p = record { fit = f; merges = h; entries = refl; share = refl; lawful = kept .lawful } in
+      let nil = sym (append-nil (g .lines)) in
+      let sh = shape-at (g .lines) [] nil in
+      let G = grows-front ws vs t (subst (Grows t) cut (line-grows t l p (sh .0) (sh .1) m)) in
+      let r = room-is (g .base) (g .lines ++ l ∷ []) rm in
+      let at : (c : Count) → total (c .of) (apply ws t .places) ≤ total (c .of) (g .base .places) + sum (λ l. c .share (l .share)) (g .lines ++ l ∷ []) = λ c.
+      (let a = total-apply (c .of) ws t in
+      let b = total-at c (g .lines) [] nil in
+      let d = sum-join (λ l. c .share (l .share)) (g .lines) (l ∷ []) in
+      let e = cost-join (c .of) ws vs in
+      let f = ap (λ z. total (c .of) (listed z)) cut in
+      let q = cost-line c t l p (sh .0) m in
+      omega (arith, a, b, d, e, f, q)) in
+      let a = leb-true _ _ (r .nodes) in
+      let b = leb-true _ _ (r .properties) in
+      let c = leb-true _ _ (r .weight) in
+      sound-from (apply ws t) (grown ws t (sh .0) G)
+      (omega (arith, at count-nodes, a))
+      (omega (arith, at count-properties, b))
+      (omega (arith, at count-weight, c))

@@ -102,7 +102,7 @@ module _ (x : List Entry) (ns : List Note) (wx : (k : Place) → wrote ns k ≡ 
       subst (Free x) (n .2) (free-note l h (n .0) (subst (In (n .0)) (sym (m .entries)) (n .1)))
 
   -- a line that x does not touch is the same line in both trees
-  line-same : (s t : Tree) (l : Line) (p : Plan) → Rising s → Rising t → Off x s t → Fewer s t → touches ns (l .entries) ≡ false → Line-at t l p → Line-at s l p
+  pub line-same : (s t : Tree) (l : Line) (p : Plan) → Rising s → Rising t → Off x s t → Fewer s t → touches ns (l .entries) ≡ false → Line-at t l p → Line-at s l p
   line-same s t l p rs rt o f h m =
       let q = planAt (l .overlay) (l .offset) in
       let a = asks-what-it-reads t (overlayOf (l .overlay)) (l .offset) p (m .merges) in

@@ -40,7 +40,7 @@ true-touches x y (n, m, i, j, w, e) =
     (some-in (λ m. cond (written (m .mark)) (samePlace (m .place) (n .place)) false) m (x .entries) j
     (cond-true (written (m .mark)) _ _ w ∙ ap (samePlace (m .place)) e ∙ same-place (m .place)))
 
-not-touched : (x y : Line) → (Touches y x → ⊥) → touches (x .entries) (y .entries) ≡ false
+pub not-touched : (x y : Line) → (Touches y x → ⊥) → touches (x .entries) (y .entries) ≡ false
 not-touched x y n = go (touches (x .entries) (y .entries)) refl
   where
     go : (b : Bool) → touches (x .entries) (y .entries) ≡ b → touches (x .entries) (y .entries) ≡ false
@@ -93,13 +93,16 @@ cons-append : (ks : List Line) (l : Line) (ls : List Line) → ks ++ (l ∷ ls) 
 cons-append [] l ls = refl
 cons-append (k ∷ ks) l ls = ap (λ z. k ∷ z) (cons-append ks l ls)
 
-pub each-can-be-done : (g : Ledger) → Kept g → Each-can-be-done g
-each-can-be-done g kept before l later e =
-    let x = made-at before (g .base) l later (subst (Made (g .base)) e (kept .made)) in
+pub can-be-done : (base : Tree) (lines : List Line) → Made base lines → room base lines ≡ true → (before : List Line) (l : Line) (later : List Line) → lines ≡ before ++ (l ∷ later) → Can-be-done base before l
+can-be-done base lines made fits before l later e =
+    let x = made-at before base l later (subst (Made base) e made) in
     record {
       plan = x .0;
       merges = x .1 .merges;
       entries = x .1 .entries;
       share = x .1 .share;
-      fits = room-front (g .base) (before ++ l ∷ []) later (subst (λ z. room (g .base) z ≡ true) (e ∙ cons-append before l later) (kept .fits));
+      fits = room-front base (before ++ l ∷ []) later (subst (λ z. room base z ≡ true) (e ∙ cons-append before l later) fits);
     }
+
+pub each-can-be-done : (g : Ledger) → Kept g → Each-can-be-done g
+each-can-be-done g kept = can-be-done (g .base) (g .lines) (kept .made) (kept .fits)

@@ -1,7 +1,7 @@
 // The ledger of a stack and the promise over every history, as definitions in specs/. This code only names the theorems, so that
 // the check demands their proofs.
 ghost use Rattle.ledger.specs.Examples.{Worked, Refusals};
-ghost use Rattle.ledger.specs.Promises.{Every-history, Invariant};
+ghost use Rattle.ledger.specs.Promises.{Every-history, Invariant, Striking, Plugging, Answered-offset};
 
 // The worked examples, computed.
 pub fn worked_examples_stand() -> u8
@@ -27,6 +27,27 @@ pub fn every_history_is_promised() -> u8
 // Opening establishes the ledger's invariant, every call keeps it, and it gives the promise.
 pub fn invariant_is_kept() -> u8
     ensures { λ _. ⌜ Invariant ⌝ }
+{
+    0
+}
+
+// A line that no later one touches is struck by restoring its record, and every tree on the way is one by the rules.
+pub fn untouched_line_is_struck() -> u8
+    ensures { λ _. ⌜ Striking ⌝ }
+{
+    0
+}
+
+// A plug that the plan and the space allow: its offset, and its writes one after the other.
+pub fn plug_has_room() -> u8
+    ensures { λ _. ⌜ Plugging ⌝ }
+{
+    0
+}
+
+// The offset that a plug answers is the largest phandle of the tree.
+pub fn offset_is_largest_phandle() -> u8
+    ensures { λ _. ⌜ Answered-offset ⌝ }
 {
     0
 }

@@ -233,12 +233,12 @@ wrote-some p t k h =
 
 -- ---- restoring by the record is putting back what the tree had
 
-restore-join : (xs ys : List Note) (s : Tree) → restore (xs ++ ys) s ≡ restore xs (restore ys s)
+pub restore-join : (xs ys : List Note) (s : Tree) → restore (xs ++ ys) s ≡ restore xs (restore ys s)
 unfolding restore
 restore-join [] ys s = refl
 restore-join (n ∷ xs) ys s = ap (putBack (n .place) (n .mark)) (restore-join xs ys s)
 
-restore-reads : (ks : List Place) (s : Tree) → restore (map readNote ks) s ≡ s
+pub restore-reads : (ks : List Place) (s : Tree) → restore (map readNote ks) s ≡ s
 unfolding restore
 restore-reads [] s = refl
 restore-reads (k ∷ ks) s = restore-reads ks s
