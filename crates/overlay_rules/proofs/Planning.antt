@@ -25,7 +25,7 @@ use Rattle.overlay_rules.specs.Queries.{Query, done, refuse, ask, seek, _>>=_,
 use Rattle.overlay_rules.specs.Plans.{Known, labelled, known, Located, nodeThere, numberThere, located, images, Touch, there, put, ifThere, touch, putIn, thereIn, lower, lowest, laterOf, twice, once, againAt, again, longAt, Plan, overlayHandles, raisedPast, hasLabels, readSymbols, knownReads, readsOf, planned, allowed, plan, apply}
 use Rattle.overlay_rules.specs.Laws.{Rising, In, Free, Off, Fewer}
 use Rattle.overlay_rules.proofs.Lists.{all-at, all-from, in-cases, in-left, in-right, in-map, in-map-from, in-joined, in-joined-from, in-pick, in-pick-from, some-false}
-use Rattle.overlay_rules.proofs.Looks.{place-not, is-phandle}
+use Rattle.overlay_rules.proofs.Looks.{place-not, is-phandle, holder-found}
 use Rattle.overlay_rules.proofs.Asking.{err-ok, ok-one, run-bind, asked-bind, Goes, goes, stop-none, stop-asks, Gave, gave, gave-from, gave-to, asked-each, each-asked}
 use Rattle.overlay_rules.proofs.Journals.{Distinct, look-out}
 
@@ -76,7 +76,8 @@ pub record Located-at (t : Tree) (f : Fragment) (q : Query Located) (l : Located
   pub node : Bytes
   pub node-is : look t (nodeAt (l .to)) ≡ Some node
   pub asks : asked t q ≡ l .reads
-  pub short : (k : Place) → In k (l .reads) → (k ≡ nodeAt (l .to)) ⊎ (k ≡ phandleAt (l .to))
+  -- the target's node, and its phandle where it was sought by that: both are there
+  pub firm : Rising t → (k : Place) → In k (l .reads) → ((v : Bytes) × (look t k ≡ Some v)) × ((k ≡ nodeAt (l .to)) ⊎ (k ≡ phandleAt (l .to)))
 
 node-located : (t : Tree) (f : Fragment) (rs : List Place) (p : Bytes) (l : Located) → run t (nodeThere f rs p) ≡ Ok l
     → (l .body ≡ f .body) × (p ≡ l .to) × ((n : Bytes) × (look t (nodeAt (l .to)) ≡ Some n)) × (asked t (nodeThere f rs p) ≡ nodeAt p ∷ []) × (rs ++ nodeAt p ∷ [] ≡ l .reads)
@@ -95,12 +96,12 @@ path-located t f p l h =
       node = x .2 .0;
       node-is = x .2 .1;
       asks = x .3 ∙ x .4;
-      short = λ k i. one k (subst (In k) (sym (x .4) ∙ ap (λ z. nodeAt z ∷ []) (x .1)) i);
+      firm = λ r k i. one k (x .2) (subst (In k) (sym (x .4) ∙ ap (λ z. nodeAt z ∷ []) (x .1)) i);
     }
   where
-    one : (k : Place) → In k (nodeAt (l .to) ∷ []) → (k ≡ nodeAt (l .to)) ⊎ (k ≡ phandleAt (l .to))
-    one k (inl e) = inl e
-    one k (inr j) = absurd j
+    one : (k : Place) → (n : Bytes) × (look t (nodeAt (l .to)) ≡ Some n) → In k (nodeAt (l .to) ∷ []) → ((v : Bytes) × (look t k ≡ Some v)) × ((k ≡ nodeAt (l .to)) ⊎ (k ≡ phandleAt (l .to)))
+    one k n (inl e) = ((n .0, ap (look t) e ∙ n .1), inl e)
+    one k n (inr j) = absurd j
 
 number-located : (t : Tree) (f : Fragment) (n : ℕ) (l : Located) → run t (numberThere f n) ≡ Ok l → Located-at t f (numberThere f n) l
 unfolding numberThere run asked _>>=_
@@ -113,13 +114,15 @@ number-located t f n l h =
       node = x .2 .0;
       node-is = x .2 .1;
       asks = ap (λ z. sought (holder t n) ++ z) (g .asks ∙ x .3) ∙ ap (λ z. sought z ++ (nodeAt p ∷ [])) (g .is) ∙ x .4;
-      short = λ k i. two k (subst (In k) (sym (x .4) ∙ ap (λ z. phandleAt z ∷ nodeAt z ∷ []) (x .1)) i);
+      firm = λ r k i.
+          let hf = holder-found t n p r (g .is) in
+          two k (x .2) (hf .0, ap (λ z. look t (phandleAt z)) (sym (x .1)) ∙ hf .1) (subst (In k) (sym (x .4) ∙ ap (λ z. phandleAt z ∷ nodeAt z ∷ []) (x .1)) i);
     }
   where
-    two : (k : Place) → In k (phandleAt (l .to) ∷ nodeAt (l .to) ∷ []) → (k ≡ nodeAt (l .to)) ⊎ (k ≡ phandleAt (l .to))
-    two k (inl e) = inr e
-    two k (inr (inl e)) = inl e
-    two k (inr (inr j)) = absurd j
+    two : (k : Place) → (n : Bytes) × (look t (nodeAt (l .to)) ≡ Some n) → (v : Bytes) × (look t (phandleAt (l .to)) ≡ Some v) → In k (phandleAt (l .to) ∷ nodeAt (l .to) ∷ []) → ((v : Bytes) × (look t k ≡ Some v)) × ((k ≡ nodeAt (l .to)) ⊎ (k ≡ phandleAt (l .to)))
+    two k n v (inl e) = ((v .0, ap (look t) e ∙ v .1), inr e)
+    two k n v (inr (inl e)) = ((n .0, ap (look t) e ∙ n .1), inl e)
+    two k n v (inr (inr j)) = absurd j
 
 pub located-is : (t : Tree) (env : List Known) (f : Fragment) (a : Target) (l : Located) → run t (located env f a) ≡ Ok l → Located-at t f (located env f a) l
 located-is t env f (byPath p) l h = path-located t f p l h

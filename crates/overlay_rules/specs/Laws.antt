@@ -12,12 +12,13 @@ use Rattle.tree.specs.Entries.{Entry}
 use Rattle.tree.specs.Maps.{Rises}
 use Rattle.tree.specs.Numbers.{be32}
 use Rattle.tree.specs.Phandles.{validHandle}
-use Rattle.tree.specs.Places.{Bytes, Place, order}
+use Rattle.tree.specs.Places.{Bytes, Place, nodeAt, order}
 use Rattle.tree.specs.Trees.{Tree, look}
 use Rattle.std.specs.declared.result.Result.the-variants.{Ok}
-use Rattle.overlay_rules.specs.Overlays.{phandleAt, Overlay}
+use Rattle.overlay_rules.specs.Overlays.{symbolsPath, phandleAt, Overlay}
 use Rattle.overlay_rules.specs.Plans.{Plan, Reference, plan}
 use Rattle.overlay_rules.specs.Queries.{run, asked}
+use Rattle.overlay_rules.specs.Records.{Note, notes}
 
 abbrev pub Rising : Tree → Type 0
 Rising t = Rises order (t .places)
@@ -75,3 +76,22 @@ pub record Points (t : Tree) (r : Reference) : Type 0 where
   pub handle : Bytes
   pub handle-is : look t (phandleAt (r .meant)) ≡ Some handle
   pub number : be32 value (r .offset) ≡ be32 handle 0
+
+-- ---- the record
+
+-- no two entries are at one place
+abbrev pub Apart-notes : List Note → Type 0
+Apart-notes [] = Unit {0}
+Apart-notes (n ∷ ns) = All (λ m. n .place ≡ m .place → ⊥) ns × Apart-notes ns
+
+-- The record has one entry for each place that is read or written, and no other; no place is both.
+pub record Records (t : Tree) (p : Plan) : Type 0 where
+  pub one : Apart-notes (notes p t)
+  pub read : (k : Place) → In k (p .reads) → (n : Note) × In n (notes p t) × (n .place ≡ k)
+  pub write : (e : Entry) → In e (p .writes) → (n : Note) × In n (notes p t) × (n .place ≡ e .place)
+  pub only : (n : Note) → In n (notes p t) → In (n .place) (p .reads) ⊎ Writes-at (p .writes) (n .place)
+  pub never-both : (k : Place) → In k (p .reads) → Writes-at (p .writes) k → ⊥
+
+-- for a tree that a stack was opened on
+abbrev pub Records-what-it-touches : Type 0
+Records-what-it-touches = (t : Tree) (v : Overlay) (d : ℕ) (p : Plan) → Rising t → look t (nodeAt symbolsPath) ≡ Some [] → run t (plan v d) ≡ Ok p → Records t p

@@ -1,7 +1,7 @@
 // The rules of overlays, as definitions in specs/. This code only names the theorems, so that the check demands their proofs.
 ghost use Rattle.overlay_rules.specs.CheckExamples.{Check-examples};
 ghost use Rattle.overlay_rules.specs.PlanExamples.{Plan-examples};
-ghost use Rattle.overlay_rules.specs.Laws.{Asks-what-it-reads, Decided-by-reads};
+ghost use Rattle.overlay_rules.specs.Laws.{Asks-what-it-reads, Decided-by-reads, Records-what-it-touches};
 
 // The check of small overlays, one for each refusal, computed.
 pub fn check_examples_stand() -> u8
@@ -27,6 +27,13 @@ pub fn asks_what_it_reads() -> u8
 // A plan is decided by what it asks: two trees that agree there give the same plan.
 pub fn decided_by_reads() -> u8
     ensures { λ _. ⌜ Decided-by-reads ⌝ }
+{
+    0
+}
+
+// The record has one entry for each place that is read or written, and no place is both.
+pub fn records_what_it_touches() -> u8
+    ensures { λ _. ⌜ Records-what-it-touches ⌝ }
 {
     0
 }
