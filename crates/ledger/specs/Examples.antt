@@ -11,12 +11,16 @@ use Rattle.tree.specs.Entries.{Entry}
 use Rattle.tree.specs.Numbers.{bytes32}
 use Rattle.tree.specs.Phandles.{phandleRule}
 use Rattle.tree.specs.Places.{Bytes, propertyAt}
-use Rattle.tree.specs.Trees.{Tree, look}
+use Rattle.std.specs.Finite.{All}
+use Rattle.tree.specs.Trees.{Tree, look, weight, Sound}
 use Rattle.overlay_rules.specs.Checks.{check, wellListed}
 use Rattle.overlay_rules.specs.CheckExamples.{fixed}
 use Rattle.overlay_rules.specs.Overlays.{phandleAt}
-use Rattle.overlay_rules.specs.Samples.{text, base, baseWith, addsCell, setsAt, setsOn, addsChild}
-use Rattle.ledger.specs.Ledgers.{Call, opening, plug, unplug, handOver, takeBack, Answer, plugged, receipt, granted, refused, Book, shut, history, answers, bookTree}
+use Rattle.overlay_rules.specs.PlanExamples.{refers}
+use Rattle.overlay_rules.specs.Samples.{node, property, text, fragment, toPath, base, baseWith, addsCell, setsAt, setsOn, addsChild}
+use Rattle.ledger.specs.Ledgers.{Call, opening, plug, unplug, handOver, takeBack, Answer, plugged, receipt, granted, refused, Ledger, fresh, Book, shut, opened, call, history, answers, bookTree}
+use Rattle.ledger.specs.Invariants.{Fit-call}
+use Rattle.ledger.specs.Promises.{Promised, Stands}
 
 abbrev pub ran : Tree → List Call → Tree
 ran t cs = bookTree (history (shut t) (opening ∷ cs))
@@ -93,3 +97,53 @@ pub record Refusals : Type 0 where
   pub plugs : said base (plug 4095 99 rate ∷ plug 4096 16 rate ∷ plug 4096 15 rate ∷ plug 4096 15 rate ∷ []) ≡ granted ∷ refused 55 0 ∷ refused 30 16 ∷ plugged 15 5 ∷ refused 31 15 ∷ []
   pub unplugs : said base (in0 rate ∷ unplug 4095 0 ∷ unplug 4096 1 ∷ handOver 0 ∷ unplug 4096 0 ∷ handOver 0 ∷ takeBack 0 ∷ out0 ∷ []) ≡ granted ∷ plugged 0 5 ∷ refused 55 0 ∷ refused 39 1 ∷ granted ∷ refused 39 0 ∷ refused 39 0 ∷ receipt 0 ∷ granted ∷ []
   pub shelf : said base (takeBack 16 ∷ takeBack 0 ∷ in0 rate ∷ takeBack 0 ∷ handOver 0 ∷ in0 rate ∷ []) ≡ granted ∷ refused 30 16 ∷ refused 41 0 ∷ plugged 0 5 ∷ refused 41 0 ∷ granted ∷ refused 31 0 ∷ []
+
+-- ---- mistakes that are impossible
+
+-- a second fragment, which targets what the first creates
+abbrev pub chained : List Entry
+chained =
+    fragment (toPath (codes "/soc"))
+    (node 32 (codes "/f/__overlay__/new")
+    ∷ node 40 (codes "/g") ∷ property 48 (codes "/g") (codes "target-path") (text (codes "/soc/new")) ∷ node 56 (codes "/g/__overlay__") ∷ [])
+
+-- a value of 4,096 bytes
+abbrev pub largeAt : ℕ → Call
+largeAt k = plug 4096 k (mode (replicate 4096 0))
+
+abbrev pub five-large : List Call
+five-large = largeAt 0 ∷ largeAt 1 ∷ largeAt 2 ∷ largeAt 3 ∷ largeAt 4 ∷ []
+
+pub record No-mistakes : Type 0 where
+  -- the offset is not worked out again: a line keeps the one that it had, where the tree without the earlier line would give another
+  pub keeps-offset : look (ran base (in0 addsCell ∷ in1 (addsChild (codes "g")) ∷ out0 ∷ [])) (phandleAt (codes "/soc/g")) ≡ Some (bytes32 7)
+  pub other-offset : look (ran base (in1 (addsChild (codes "g")) ∷ [])) (phandleAt (codes "/soc/g")) ≡ Some (bytes32 6)
+  -- a second fragment's target is sought in the tree before the merge
+  pub chained-good : Good chained
+  pub before-merge : said base (in0 chained ∷ []) ≡ granted ∷ refused 33 40 ∷ []
+  -- space is judged by the shares, not by the tree's present weight: the tree has room for the sixth, which sets what the others set
+  pub sixth : said base (five-large ++ largeAt 5 ∷ []) ≡ granted ∷ plugged 0 5 ∷ plugged 1 5 ∷ plugged 2 5 ∷ plugged 3 5 ∷ plugged 4 5 ∷ refused 38 0 ∷ []
+  pub present : weight (ran base five-large .places) ≡ 4153
+
+-- ---- the premises of the theorems hold of the worked examples
+
+abbrev pub ledgerIn : Book → Ledger
+ledgerIn (shut t) = fresh t
+ledgerIn (opened g) = g
+
+abbrev pub worked-calls : List Call
+worked-calls = opening ∷ in0 addsCell ∷ in1 status ∷ out0 ∷ handOver 0 ∷ takeBack 0 ∷ out1 ∷ in1 refers ∷ []
+
+abbrev pub refers-ledger : Ledger
+refers-ledger = ledgerIn (history (shut base) (opening ∷ in0 refers ∷ []))
+
+pub record Premises : Type 0 where
+  -- the base is a tree by the rules, and opening accepts it
+  pub sound : Sound base
+  pub opens : call (shut base) opening ≡ (granted, opened (fresh base))
+  -- every call of the histories is fit, and they leave an open stack
+  pub fit : All Fit-call worked-calls
+  pub open-stack : answers (shut base) worked-calls ≡ granted ∷ plugged 0 5 ∷ plugged 1 6 ∷ refused 40 1 ∷ granted ∷ receipt 0 ∷ granted ∷ plugged 1 6 ∷ []
+  pub promised : Promised base (history (shut base) worked-calls)
+  -- a reference stands
+  pub stands : Stands refers-ledger (record { place = (codes "/soc/dev", Some (codes "uses")); offset = 0; meant = codes "/soc/bus" })

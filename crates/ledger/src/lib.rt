@@ -1,6 +1,6 @@
 // The ledger of a stack and the promise over every history, as definitions in specs/. This code only names the theorems, so that
 // the check demands their proofs.
-ghost use Rattle.ledger.specs.Examples.{Worked, Refusals};
+ghost use Rattle.ledger.specs.Examples.{Worked, Refusals, No-mistakes, Premises};
 ghost use Rattle.ledger.specs.Promises.{Every-history, Invariant, Striking, Plugging, Answered-offset};
 
 // The worked examples, computed.
@@ -48,6 +48,20 @@ pub fn plug_has_room() -> u8
 // The offset that a plug answers is the largest phandle of the tree.
 pub fn offset_is_largest_phandle() -> u8
     ensures { λ _. ⌜ Answered-offset ⌝ }
+{
+    0
+}
+
+// Mistakes that the rules exclude, computed: another offset at unplugging, a target in the half-merged tree, space by the present weight.
+pub fn mistakes_are_impossible() -> u8
+    ensures { λ _. ⌜ No-mistakes ⌝ }
+{
+    0
+}
+
+// The worked examples meet the premises of the theorems, so that none is empty.
+pub fn premises_hold() -> u8
+    ensures { λ _. ⌜ Premises ⌝ }
 {
     0
 }

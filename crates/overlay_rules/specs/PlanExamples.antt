@@ -44,17 +44,21 @@ deep =
     (node 32 (codes "/f/__overlay__" ++ long) ∷ node 40 (codes "/f/__overlay__" ++ (long ++ long)) ∷ node 48 (codes "/f/__overlay__" ++ (long ++ (long ++ (long ++ (long ++ (long ++ (long ++ long)))))))
     ∷ node 56 (codes "/f/__overlay__" ++ (long ++ (long ++ (long ++ (long ++ (long ++ (long ++ (long ++ long)))))))) ∷ [])
 
+-- what it reads and writes at the offset 5, its share, and its two references
+abbrev pub refersPlan : Plan
+refersPlan = record {
+  reads = (codes "/__symbols__", None) ∷ (codes "/__symbols__", Some (codes "bus")) ∷ (codes "/soc/bus", None) ∷ (codes "/soc/bus", Some (codes "phandle"))
+      ∷ (codes "/soc", None) ∷ (codes "/soc", None) ∷ [];
+  writes = node 32 (codes "/soc/dev") ∷ property 40 (codes "/soc/dev") (codes "phandle") (bytes32 6)
+      ∷ property 48 (codes "/soc/dev") (codes "uses") (bytes32 5 ++ bytes32 6) ∷ [];
+  share = record { nodes = 1; properties = 2; weight = 4 + 12 + 13 };
+  references = record { place = (codes "/soc/dev", Some (codes "uses")); offset = 0; meant = codes "/soc/bus" }
+      ∷ record { place = (codes "/soc/dev", Some (codes "uses")); offset = 4; meant = codes "/soc/dev" } ∷ [];
+}
+
 pub record Plan-examples : Type 0 where
   pub checks : check refers ≡ None
-  pub cells : planOn base refers 5 ≡ Ok (record {
-    reads = (codes "/__symbols__", None) ∷ (codes "/__symbols__", Some (codes "bus")) ∷ (codes "/soc/bus", None) ∷ (codes "/soc/bus", Some (codes "phandle"))
-        ∷ (codes "/soc", None) ∷ (codes "/soc", None) ∷ [];
-    writes = node 32 (codes "/soc/dev") ∷ property 40 (codes "/soc/dev") (codes "phandle") (bytes32 6)
-        ∷ property 48 (codes "/soc/dev") (codes "uses") (bytes32 5 ++ bytes32 6) ∷ [];
-    share = record { nodes = 1; properties = 2; weight = 4 + 12 + 13 };
-    references = record { place = (codes "/soc/dev", Some (codes "uses")); offset = 0; meant = codes "/soc/bus" }
-        ∷ record { place = (codes "/soc/dev", Some (codes "uses")); offset = 4; meant = codes "/soc/dev" } ∷ [];
-  })
+  pub cells : planOn base refers 5 ≡ Ok refersPlan
   -- 32: at the label: no such symbol
   pub no-label : planOn base (setsAt (codes "cell") (codes "status") []) 5 ≡ Err (32, 56)
   -- 33: at the fragment: no such node, no such phandle
