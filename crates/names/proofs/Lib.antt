@@ -1,0 +1,6 @@
+pub mod Bytes
+pub mod NameLaws
+pub mod Orders
+pub mod PathLaws
+pub mod Table
+pub mod Words

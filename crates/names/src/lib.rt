@@ -1,1 +1,4 @@
 // Names of nodes and properties, paths, and their order.
+pub mod classes;
+pub mod names;
+pub mod paths;

@@ -1,0 +1,5 @@
+pub mod Bytes
+pub mod Heads
+pub mod Lexed
+pub mod Shapes
+pub mod Steps
