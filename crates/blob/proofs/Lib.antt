@@ -1,4 +1,3 @@
-pub mod Bytes
 pub mod Heads
 pub mod Lexed
 pub mod Shapes

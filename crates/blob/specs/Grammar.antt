@@ -4,13 +4,15 @@ use mathlib.Core.List.{List, [], _∷_, _++_}
 use Prim.Native.Nat.{ℕ, _+_, _%_, _<_, _≤_}
 use lib.ListN.{length, getD}
 use Rattle.std.specs.declared.option.Option.the-variants.{Some, None}
+use Rattle.std.specs.declared.result.Result.{Result}
 use Rattle.std.specs.declared.result.Result.the-variants.{Ok}
 use Rattle.std.specs.Holes.{between}
 use Rattle.std.specs.shelf.Lists.{All}
 use Rattle.tree.specs.Numbers.{be32, pad4}
-use Rattle.blob.specs.Header.{magicNumber, totalSize, structureOffset, stringsOffset, reservationOffset, versionNumber, lastCompatible, bootCpu, stringsSize, structureSize, header}
+use Rattle.blob.specs.Header.{magicNumber, totalSize, structureOffset, stringsOffset, reservationOffset, versionNumber, lastCompatible, bootCpu, stringsSize, structureSize}
 use Rattle.blob.specs.Tokens.{Tok, begin, property, end, nop, finish, tokenAt}
 use Rattle.blob.specs.declared.types.Layout.{Layout}
+use Rattle.blob.specs.declared.types.Refusal.{Refusal}
 
 -- ---- the header
 
@@ -40,11 +42,9 @@ pub record Header (bs : List ℕ) (l : Layout) : Type 0 where
   pub stringsStop : l .«strings_end» ≡ stringsOffset bs + stringsSize bs
   pub boot : l .boot ≡ bootCpu bs
 
-abbrev pub Header-sound : Type 0
-Header-sound = (bs : List ℕ) (l : Layout) → header bs ≡ Ok l → Header bs l
-
-abbrev pub Header-complete : Type 0
-Header-complete = (bs : List ℕ) (l : Layout) → Header bs l → header bs ≡ Ok l
+-- r is Ok just where there is such a header, and then says where the blocks lie
+abbrev pub Accepts : List ℕ → Result Layout Refusal → Type 0
+Accepts bs r = (l : Layout) → (r ≡ Ok l → Header bs l) × (Header bs l → r ≡ Ok l)
 
 -- ---- tokens
 

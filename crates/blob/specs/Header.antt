@@ -54,9 +54,12 @@ identified bs = leb 40 (length bs) && (eqb (magicNumber bs) 0xd00d_feed && (leb 
 unfoldable pub versioned : List ℕ → Bool
 versioned bs = eqb (versionNumber bs) 17 && eqb (lastCompatible bs) 16
 
+abbrev pub isZero : ℕ → Bool
+isZero b = eqb b 0
+
 -- 16 zero bytes from i on
 abbrev pub emptyAt : List ℕ → ℕ → Bool
-emptyAt bs i = each (λ b. eqb b 0) (between i (i + 16) bs)
+emptyAt bs i = each isZero (between i (i + 16) bs)
 
 -- each block within the total size, the two offsets divided, and the reservation block empty
 unfoldable pub placed : List ℕ → Bool

@@ -22,7 +22,7 @@ unfoldable pub lex : List ℕ → Layout → ℕ → ℕ → Tokens
 lex bs l zero p = (p, None) ∷ []
 lex bs l (suc n) p = more p (tokenAt bs l p) (λ q. lex bs l n q)
 
--- the tokens from p on, up to a faulty one, which stands past the end of the block if nowhere else
+-- the tokens from p on, up to a faulty one, which is at the end of the block if nowhere before
 unfoldable pub tokensFrom : List ℕ → Layout → ℕ → Tokens
 tokensFrom bs l p = lex bs l (suc (l .end - p)) p
 

@@ -1,14 +1,8 @@
-// The headers and tokens that are found are those of the format.
-ghost use Rattle.blob.specs.Grammar.{Header-sound, Header-complete, Token-sound, Token-complete, Token-unique, Token-ahead};
+// The tokens that are found are those of the format.
+ghost use Rattle.blob.specs.Grammar.{Token-sound, Token-complete, Token-unique, Token-ahead};
 ghost use Rattle.blob.specs.Lexing.{Tokens-follow, Tokens-only, Tokens-rise};
 
-pub fn header_stands() -> u8
-    ensures sound { λ _. ⌜ Header-sound ⌝ }
-    ensures complete { λ _. ⌜ Header-complete ⌝ }
-{
-    0
-}
-
+// A token is found just where one stands.
 pub fn tokens_stand() -> u8
     ensures sound { λ _. ⌜ Token-sound ⌝ }
     ensures complete { λ _. ⌜ Token-complete ⌝ }

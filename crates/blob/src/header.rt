@@ -2,11 +2,11 @@
 ghost use mathlib.Core.Path.{_≡_};
 ghost use mathlib.Core.Bool.{true};
 ghost use Prim.Native.Nat.{_≤_};
-ghost use lib.Dec.{eqb};
 ghost use lib.ListN.{length};
 ghost use Rattle.std.specs.Vec.{made};
 ghost use Rattle.names.specs.Names.{each};
-ghost use Rattle.blob.specs.Header.{totalSize, identified, versioned, placed, layoutOf, header, Within};
+ghost use Rattle.blob.specs.Grammar.{Accepts};
+ghost use Rattle.blob.specs.Header.{totalSize, identified, versioned, isZero, placed, layoutOf, header, Within};
 use crate::numbers::be32_at;
 use crate::types::Layout;
 use crate::types::Refusal;
@@ -67,7 +67,7 @@ fn is_versioned(bytes: &[u8]) -> bool
 }
 
 fn all_zero(s: &[u8]) -> bool
-    ensures { λ r. ⌜ r ≡ each (λ b. eqb b 0) (now (s .entry)) ⌝ }
+    ensures { λ r. ⌜ r ≡ each isZero (now (s .entry)) ⌝ }
 {
     for x in s {
         if *x != 0 {
@@ -120,6 +120,7 @@ fn layout_of(bytes: &[u8]) -> Layout
 // Where the blocks of a blob lie, or why the bytes are no blob.
 pub fn check_header(bytes: &[u8]) -> Result<Layout, Refusal>
     ensures value { λ r. ⌜ r ≡ header (now (bytes .entry)) ⌝ }
+    ensures format { λ r. ⌜ Accepts (now (bytes .entry)) r ⌝ }
     ensures within { λ r. ⌜ made r (λ l. Within (now (bytes .entry)) l) ⌝ }
 {
     if !is_identified(bytes) {

@@ -5,19 +5,7 @@ ghost use lib.ListN.{length};
 ghost use Rattle.std.specs.Slices.{found};
 ghost use Rattle.names.specs.Names.{before};
 ghost use Rattle.blob.specs.Tokens.{bytesOf, textAt};
-
-// How many bytes come before the first `b`; all where there is none.
-fn find(s: &[u8], b: u8) -> usize
-    ensures within { λ r. ⌜ r ≤ length (now (s .entry)) ⌝ }
-    ensures value { λ r. ⌜ r ≡ before b (now (s .entry)) ⌝ }
-{
-    for (i, x) in s.iter().enumerate() {
-        if *x == b {
-            return i;
-        }
-    }
-    s.len()
-}
+use names::names::find;
 
 // How many bytes come before the first zero byte. It takes four bytes a turn, since a reader spends much of its time here.
 fn zero_at(s: &[u8]) -> usize

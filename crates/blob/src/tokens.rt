@@ -67,7 +67,7 @@ impl<'a> Blob<'a> {
         })
     }
 
-    // The token at `p`, and where the next one starts; none where it is unknown or cut, or is the last mark before the block's end.
+    // The token at `p`, and where the next one starts; none where it is unknown or cut, or is a last one before the block's end.
     pub fn token_at(&self, p: usize) -> Option<Step<'a>>
         ensures value { λ r. ⌜ stepOf r ≡ tokenAt (now (now (self .entry) .bytes)) (now (self .entry) .layout) p ⌝ }
         ensures bounds { λ r. ⌜ found r (λ s. (p + 4 ≤ s .next) × (s .next ≤ now (self .entry) .layout .end)) ⌝ }

@@ -1,6 +1,7 @@
 // What a reader of blobs answers.
 ghost use mathlib.Core.Path.{_≡_};
-ghost use Rattle.blob.specs.Refusals.{numberOf, placeOf};
+ghost use Rattle.std.specs.declared.option.Option.the-variants.{Some};
+ghost use Rattle.blob.specs.Refusals.{numberOf, placeOf, wordsOf};
 use std::fmt;
 
 // Why a blob is refused. A fault of a token has the token's byte offset in the blob; the others concern the whole blob.
@@ -40,18 +41,17 @@ impl Refusal {
 }
 
 pub impl fmt::Display for Refusal as RefusalDisplay {
+    ghost shown = { λ e. Some (wordsOf e) };
+
     fn fmt<W: fmt::Write>(&self, f: &mut fmt::Formatter<W>) -> fmt::Result {
         match *self {
             Refusal::NotABlob => write!(f, "not a blob"),
-            Refusal::Version => write!(f, "not version 17, or not compatible with 16"),
-            Refusal::Blocks => write!(
-                f,
-                "a block is misplaced, or the reservation block is not empty"
-            ),
+            Refusal::Version => write!(f, "not version 17 that is compatible with 16"),
+            Refusal::Blocks => write!(f, "a block is misplaced, or memory is reserved"),
             Refusal::TooLarge => write!(f, "the blob is too large"),
-            Refusal::Token(at) => write!(f, "the token at {at} is unknown, cut or out of place"),
-            Refusal::Name(at) => write!(f, "the token at {at} has a bad name, or one used twice"),
-            Refusal::Limit(at) => write!(f, "the token at {at} passes a limit"),
+            Refusal::Token(at) => write!(f, "a token is unknown, cut or out of place: {at}"),
+            Refusal::Name(at) => write!(f, "a name is against the rules or used twice: {at}"),
+            Refusal::Limit(at) => write!(f, "a limit is passed: {at}"),
         }
     }
 }

@@ -3,4 +3,5 @@ pub mod NameLaws
 pub mod Orders
 pub mod PathLaws
 pub mod Table
+pub mod Walks
 pub mod Words

@@ -1,19 +1,17 @@
 -- The orders of names and of paths. Assumes nothing.
-use mathlib.Core.Path.{_≡_, refl, sym, ap, subst, _∙_}
-use mathlib.Core.Bool.{Bool, true, false, cond, not, _&&_}
+use mathlib.Core.Path.{_≡_, refl, sym, ap, _∙_}
+use mathlib.Core.Bool.{true, false}
 use mathlib.Core.List.{List, [], _∷_, _++_, map, append-assoc, append-nil}
 use mathlib.Core.Logic.{⊎-elim}
 use Prim.Native.Nat.{ℕ, _+_, _<_}
 use native.Mathlib.Omega.{arith}
 use lib.Dec.{eqb, ltb}
-use lib.ListN.{length}
 use Rattle.std.specs.shelf.Text.{sameBytes}
 use Rattle.std.proofs.shelf.Equals.{sameBytes-decides}
 use Rattle.std.proofs.shelf.Ways.{tells}
 use Rattle.std.proofs.shelf.Lists.{map-append}
 use Rattle.std.proofs.shelf.Lookups.{exact-bytes}
-use Rattle.std.proofs.shelf.Tests.{cases-bool, cases-order, eqb-true, lt-ltb, le-ltb, eq-eqb, ne-eqb, cond-true, cond-false, and-parts, not-true, true≢false}
-use Rattle.std.specs.declared.cmp.Ordering.{Ordering}
+use Rattle.std.proofs.shelf.Tests.{cases-bool, cases-order, eqb-true, lt-ltb, le-ltb, eq-eqb, ne-eqb, cond-true, cond-false, true≢false}
 use Rattle.std.specs.declared.cmp.Ordering.the-variants.{Less, Equal, Greater}
 use Rattle.std.specs.Orderings.{reversed, thenBy}
 use Rattle.std.specs.Keys.{unsigned}
@@ -21,19 +19,19 @@ use Rattle.std.specs.Lexical.{lexical}
 use Rattle.names.specs.Orders.{nameOrder, pathOrder, rank}
 use Rattle.names.specs.Paths.{root, stem, child, plain}
 use Rattle.names.specs.PathLaws.{Exactly, ChildAfter, LongerAfter, FrontShared, Siblings, SiblingsBelow, further}
-use Rattle.names.proofs.PathLaws.{by-root, stem-root}
+use Rattle.names.proofs.PathLaws.{by-root, slashless, stem-root}
 
 -- ---- numbers
 
-below : (x y : ℕ) → x < y → unsigned .cmp x y ≡ Less
+pub below : (x y : ℕ) → x < y → unsigned .cmp x y ≡ Less
 below x y h = cond-true (ltb x y) _ _ (lt-ltb x y h)
 
-above : (x y : ℕ) → y < x → unsigned .cmp x y ≡ Greater
+pub above : (x y : ℕ) → y < x → unsigned .cmp x y ≡ Greater
 above x y h =
     cond-false (ltb x y) _ _ (le-ltb x y (omega arith))
     ∙ cond-false (eqb x y) _ _ (ne-eqb x y (λ e. omega arith))
 
-level : (x y : ℕ) → x ≡ y → unsigned .cmp x y ≡ Equal
+pub level : (x y : ℕ) → x ≡ y → unsigned .cmp x y ≡ Equal
 level x y h =
     cond-false (ltb x y) _ _ (le-ltb x y (omega arith)) ∙ cond-true (eqb x y) _ _ (eq-eqb x y h)
 
@@ -56,7 +54,7 @@ name-order = record { flip = lexical unsigned .flip; trans = lexical unsigned .t
 
 -- ---- ranks
 
-rank-one : (a b : ℕ) → rank a ≡ rank b → a ≡ b
+pub rank-one : (a b : ℕ) → rank a ≡ rank b → a ≡ b
 rank-one a b e = grind (arith, tells)
 
 rank-all : (x y : List ℕ) → map rank x ≡ map rank y → x ≡ y
@@ -106,9 +104,6 @@ ranked x y e f =
     (λ h. above (x + 1) (y + 1) (omega arith) ∙ sym (above x y h)))
     (cases-order x y)
 
-first : (b : ℕ) (bs : List ℕ) → plain (b ∷ bs) ≡ true → (eqb b 47 ≡ false) × (plain bs ≡ true)
-first b bs h = let k = and-parts (not (eqb b 47)) (plain bs) h in (not-true (eqb b 47) (k .0), k .1)
-
 -- a name's byte comes behind the end of another name
 pub past-end : (r : List ℕ) (y : ℕ) (ys : List ℕ) → further r ≡ true → eqb y 47 ≡ false → pathOrder r (y ∷ ys) ≡ Less
 past-end [] y ys h e = refl
@@ -117,10 +112,10 @@ past-end (b ∷ r) y ys h e =
 
 names-ordered : (n m r s : List ℕ) → plain n ≡ true → plain m ≡ true → (n ≡ m → ⊥) → further r ≡ true → further s ≡ true → pathOrder (n ++ r) (m ++ s) ≡ nameOrder n m
 names-ordered [] [] r s g h o u v = absurd (o refl)
-names-ordered [] (y ∷ m) r s g h o u v = past-end r y (m ++ s) u (first y m h .0)
+names-ordered [] (y ∷ m) r s g h o u v = past-end r y (m ++ s) u (slashless y m h .0)
 names-ordered (x ∷ n) [] r s g h o u v =
-    path-order .flip (x ∷ (n ++ r)) s ∙ ap reversed (past-end s x (n ++ r) v (first x n g .0))
-names-ordered (x ∷ n) (y ∷ m) r s g h o u v = go (names-ordered n m r s) (first x n g) (first y m h)
+    path-order .flip (x ∷ (n ++ r)) s ∙ ap reversed (past-end s x (n ++ r) v (slashless x n g .0))
+names-ordered (x ∷ n) (y ∷ m) r s g h o u v = go (names-ordered n m r s) (slashless x n g) (slashless y m h)
   where
     go : (plain n ≡ true → plain m ≡ true → (n ≡ m → ⊥) → further r ≡ true → further s ≡ true → pathOrder (n ++ r) (m ++ s) ≡ nameOrder n m) → (eqb x 47 ≡ false) × (plain n ≡ true) → (eqb y 47 ≡ false) × (plain m ≡ true) → thenBy (unsigned .cmp (rank x) (rank y)) (pathOrder (n ++ r) (m ++ s)) ≡ thenBy (unsigned .cmp x y) (nameOrder n m)
     go k a b =

@@ -3,14 +3,14 @@ use mathlib.Core.Path.{_≡_, refl, sym, ap, subst, _∙_}
 use mathlib.Core.Bool.{Bool, true, false, cond, not, _&&_, _||_}
 use mathlib.Core.List.{List, [], _∷_, _++_, append-assoc, append-nil}
 use mathlib.Core.Logic.{_⊎_, inl, inr, ⊎-elim}
-use Prim.Native.Nat.{ℕ, suc, _+_, _-_, _<_, _≤_}
+use Prim.Native.Nat.{ℕ, _+_, _-_, _<_}
 use native.Mathlib.Omega.{arith}
 use lib.Dec.{eqb}
 use lib.ListN.{length, take, length-append}
 use Rattle.std.specs.shelf.Text.{sameBytes}
 use Rattle.std.proofs.shelf.Equals.{sameBytes-decides}
 use Rattle.std.proofs.shelf.Lists.{append-cancel-left, take-at, nil-from-length}
-use Rattle.std.proofs.shelf.Tests.{and-parts, and-from, cases-bool, eqb-true, eq-eqb, ne-eqb, cond-true, cond-false, not-true, not-from-false, true≢false}
+use Rattle.std.proofs.shelf.Tests.{and-parts, and-from, cases-bool, eqb-true, ne-eqb, cond-false, not-true, not-from-false, true≢false}
 use Rattle.std.proofs.shelf.Ways.{tells}
 use Rattle.names.specs.Names.{each, nodeName}
 use Rattle.names.specs.Paths.{root, parts, pathText, stem, child, under, plain, behindLast, leaf, parent}
@@ -51,7 +51,7 @@ path-starts (b ∷ bs) e =
 -- ---- the last name
 
 -- no slash in the first byte, none in the others
-slashless : (b : ℕ) (bs : List ℕ) → plain (b ∷ bs) ≡ true → (eqb b 47 ≡ false) × (plain bs ≡ true)
+pub slashless : (b : ℕ) (bs : List ℕ) → plain (b ∷ bs) ≡ true → (eqb b 47 ≡ false) × (plain bs ≡ true)
 slashless b bs h = let k = and-parts (not (eqb b 47)) (plain bs) h in (not-true (eqb b 47) (k .0), k .1)
 
 pub behind-plain : (cur n : List ℕ) → plain n ≡ true → behindLast cur n ≡ cur
@@ -130,15 +130,15 @@ each-append : {A : Type 0} (p : A → Bool) (xs ys : List A) → each p (xs ++ y
 each-append p [] ys = refl
 each-append p (x ∷ xs) ys = let h = each-append p xs ys in grind (arith, tells)
 
-and-true : (v : Bool) → (v && true) ≡ v
+pub and-true : (v : Bool) → (v && true) ≡ v
 and-true true = refl
 and-true false = refl
 
 -- the names of a path, with what follows a further slash
-names-join : (x y : List ℕ) → each nodeName (parts [] (x ++ (47 ∷ y))) ≡ (each nodeName (parts [] x) && each nodeName (parts [] y))
+pub names-join : (x y : List ℕ) → each nodeName (parts [] (x ++ (47 ∷ y))) ≡ (each nodeName (parts [] x) && each nodeName (parts [] y))
 names-join x y = ap (each nodeName) (parts-join [] x y) ∙ each-append nodeName (parts [] x) (parts [] y)
 
-names-one : (n : List ℕ) → plain n ≡ true → each nodeName (parts [] n) ≡ nodeName n
+pub names-one : (n : List ℕ) → plain n ≡ true → each nodeName (parts [] n) ≡ nodeName n
 names-one n h = ap (each nodeName) (parts-plain [] n h) ∙ and-true (nodeName n)
 
 nonzero : (xs : List ℕ) → 0 < length xs → eqb (length xs) 0 ≡ false

@@ -2,3 +2,5 @@
 pub mod classes;
 pub mod names;
 pub mod paths;
+#[cfg(test)]
+mod tests;

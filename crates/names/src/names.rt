@@ -5,6 +5,7 @@ ghost use Prim.Native.Nat.{ℕ, _≤_};
 ghost use lib.Dec.{leb};
 ghost use lib.ListN.{length};
 ghost use Rattle.std.specs.shelf.Lists.{leading};
+ghost use Rattle.std.specs.shelf.Text.{sameBytes};
 ghost use Rattle.names.specs.Names.{nodeByte, propertyByte, before, word, nodeName, propertyName};
 use crate::classes::is_node_byte;
 use crate::classes::is_property_byte;
@@ -28,6 +29,14 @@ pub fn find(s: &[u8], b: u8) -> usize
     s.len()
 }
 
+// Whether two texts have the same bytes.
+pub fn same_bytes(a: &[u8], b: &[u8]) -> bool
+    ensures { λ r. ⌜ r ≡ sameBytes (now (a .entry)) (now (b .entry)) ⌝ }
+{
+    a == b
+}
+
+// The bytes of which words of a kind of names consist.
 trait Alphabet {
     ghost holds: { ℕ → Bool };
 
@@ -55,17 +64,26 @@ impl Alphabet for OfProperties as PropertyAlphabet {
     }
 }
 
-// How many bytes of the alphabet `s` begins with.
+// How many bytes of the alphabet `s` begins with. Two bytes a turn: most of a reader's time on names is spent here.
 fn run<A: Alphabet>(s: &[u8]) -> usize
     ensures within { λ r. ⌜ r ≤ length (now (s .entry)) ⌝ }
     ensures value { λ r. ⌜ r ≡ leading (A·Alphabet .holds) (now (s .entry)) ⌝ }
 {
-    for (i, x) in s.iter().enumerate() {
-        if !A::has(*x) {
+    let mut i = 0;
+    while i + 1 < s.len() {
+        if !A::has(s[i]) {
             return i;
         }
+        if !A::has(s[i + 1]) {
+            return i + 1;
+        }
+        i += 2;
     }
-    s.len()
+    if i < s.len() && A::has(s[i]) {
+        i + 1
+    } else {
+        i
+    }
 }
 
 fn is_word_length(n: usize) -> bool

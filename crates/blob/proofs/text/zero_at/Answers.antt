@@ -1,28 +1,33 @@
 use native.Mathlib.Omega.{arith}
-use mathlib.Core.Path.{_≡_, refl, ap, _∙_}
+use mathlib.Core.Path.{_≡_, refl, ap, subst, _∙_}
 use mathlib.Core.List.{List}
-use Prim.Native.Nat.{ℕ, _+_, _-_, _≤_}
+use Prim.Native.Nat.{ℕ, _+_, _-_, _<_, _≤_}
 use lib.ListN.{length, getD, drop}
 use Rattle.names.specs.Names.{before}
 use Rattle.std.proofs.shelf.Parts.{between-to-end}
-use Rattle.blob.proofs.Bytes.{before-found, before-next}
+use Rattle.names.proofs.Words.{before-found, before-more}
 use Rattle.blob.proofs.text.zero_at.Needs as need
+
+-- one more byte passed, and the next place under a name of its own
+module _ (s : List ℕ) (i : ℕ) (inv : before 0 s ≡ i + before 0 (drop i s)) where
+  next : (j : ℕ) → i + 1 ≡ j → i < length s → (getD s i 0 ≡ 0 → ⊥) → before 0 s ≡ j + before 0 (drop j s)
+  next j e h n = subst (λ k. before 0 s ≡ k + before 0 (drop k s)) e (before-more 0 s i inv h n)
 
 -- no zero byte in the four from i on, one after another
 module _ (s : List ℕ) (i : ℕ) (inv : before 0 s ≡ i + before 0 (drop i s)) (h : 4 ≤ length s - i) (a : getD s i 0 ≡ 0 → ⊥) where
   one : before 0 s ≡ (i + 1) + before 0 (drop (i + 1) s)
-  one = before-next 0 s i inv (i + 1) refl (omega arith) a
+  one = next s i inv (i + 1) refl (omega arith) a
 
   module _ (b : getD s (i + 1) 0 ≡ 0 → ⊥) where
     two : before 0 s ≡ (i + 2) + before 0 (drop (i + 2) s)
-    two = before-next 0 s (i + 1) one (i + 2) (omega arith) (omega arith) b
+    two = next s (i + 1) one (i + 2) (omega arith) (omega arith) b
 
     module _ (c : getD s (i + 2) 0 ≡ 0 → ⊥) where
       three : before 0 s ≡ (i + 3) + before 0 (drop (i + 3) s)
-      three = before-next 0 s (i + 2) two (i + 3) (omega arith) (omega arith) c
+      three = next s (i + 2) two (i + 3) (omega arith) (omega arith) c
 
       four : (getD s (i + 3) 0 ≡ 0 → ⊥) → before 0 s ≡ (i + 4) + before 0 (drop (i + 4) s)
-      four d = before-next 0 s (i + 3) three (i + 4) (omega arith) (omega arith) d
+      four d = next s (i + 3) three (i + 4) (omega arith) (omega arith) d
 
 pub loop-i-holds : need.loop-i-holds
 loop-i-holds c = (omega arith, omega arith)
