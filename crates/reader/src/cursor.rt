@@ -1,6 +1,7 @@
 // A cursor over the tokens of a blob.
 ghost use mathlib.Core.Path.{_≡_};
 ghost use Prim.Native.Nat.{_+_, _-_, _≤_};
+ghost use denote.Ref.{now as behind};
 ghost use Rattle.std.specs.Slices.{found};
 ghost use Rattle.reader.specs.Handing.{ahead, Handed, Sought};
 use crate::tokens::Found;
@@ -63,6 +64,8 @@ impl<'a> Tokens<'a> {
 
 pub impl<'a> Iterator for Tokens<'a> as TokensIterator {
     type Item = Item<'a>;
+
+    ghost steps = { λ s r t. (t .blob ≡ s .blob) × Handed r (ahead (behind (s .blob .bytes)) (s .blob .layout) (s .next)) (ahead (behind (t .blob .bytes)) (t .blob .layout) (t .next)) };
 
     ghost ends = { λ _. Unit {0} };
 
