@@ -2,14 +2,18 @@
 use mathlib.Core.Path.{_≡_, refl, sym, ap, subst, _∙_}
 use mathlib.Core.Bool.{true}
 use mathlib.Core.List.{List, [], _∷_, _++_}
-use Prim.Native.Nat.{ℕ, _+_, _≤_}
+use Prim.Native.Nat.{ℕ, _+_, _≤_, _<_, _^_}
 use native.Mathlib.Omega.{arith}
 use Rattle.std.specs.declared.option.Option.{Option}
 use Rattle.std.specs.declared.option.Option.the-variants.{Some, None}
 use Rattle.std.specs.declared.result.Result.{Result}
 use Rattle.std.specs.declared.result.Result.the-variants.{Ok, Err}
 use Rattle.tree.specs.Places.{Bytes}
-use Rattle.tree.specs.Entries.{Entry}
+use Rattle.tree.specs.Entries.{Entry, listed, treeOf, wellListed}
+use Rattle.tree.specs.Trees.{roomy, Sound}
+use Rattle.tree.proofs.Listed.{listed-sound}
+use Rattle.std.proofs.shelf.Tests.{and-parts}
+use Rattle.reader.proofs.Listed.{root-listed}
 use Rattle.blob.specs.Grammar.{Header, IsToken}
 use Rattle.blob.specs.Header.{header}
 use Rattle.blob.specs.Lexing.{Tokens, tokensFrom}
@@ -44,8 +48,8 @@ module _ (bs : Bytes) (l : Layout) where
       gone (Some s) e = let a = token-ahead bs l (l .end) (s .0) (s .1) (token-sound bs l (l .end) (s .0) (s .1) e) in absurd (omega arith)
 
   module _ (ts : Spelt) (es : List Entry) (fills : Fills bs l (l .start) ts (l .end)) (tree : Root (kept ts) es) where
-    listed : entriesOf bs l ≡ es
-    listed = ap (λ z. entries [] (sound z)) (found fills) ∙ ap (entries []) (sound-somes ts (tokensFrom bs l (l .end)) past) ∙ root-entries tree
+    lists : entriesOf bs l ≡ es
+    lists = ap (λ z. entries [] (sound z)) (found fills) ∙ ap (entries []) (sound-somes ts (tokensFrom bs l (l .end)) past) ∙ root-entries tree
 
     taken : within es ≡ true → verdict [] none (tokensFrom bs l (l .start)) ≡ Ok (plus none es)
     taken w = ap (verdict [] none) (found fills) ∙ verdict-kept ts (tokensFrom bs l (l .end)) [] none ∙ root-read (tokensFrom bs l (l .end)) tree w
@@ -56,7 +60,7 @@ module _ (bs : Bytes) (boot : ℕ) (es : List Entry) where
       let l = b .layout in
       let h : header bs ≡ Ok l = header-complete bs l (b .header) in
       ap (structure bs) h ∙ ap (given {A = ℕ × List Entry} (l .boot, entriesOf bs l)) (taken bs l (b .tokens) es (b .fills) (b .tree) w)
-      ∙ (λ i. Ok (sym (b .cpu) i, listed bs l (b .tokens) es (b .fills) (b .tree) i))
+      ∙ (λ i. Ok (sym (b .cpu) i, lists bs l (b .tokens) es (b .fills) (b .tree) i))
 
   -- what is accepted, by the header and by the verdict
   by-verdict : (l : Layout) → header bs ≡ Ok l → (r : Result Counts Refusal) → verdict [] none (tokensFrom bs l (l .start)) ≡ r → given {A = ℕ × List Entry} (l .boot, entriesOf bs l) r ≡ Ok (boot, es) → Blob bs boot es × (within es ≡ true)
@@ -87,7 +91,7 @@ unique bs b d es fs x y =
     let q = header-complete bs (y .layout) (y .header) in
     let same : x .layout ≡ y .layout = cc in (
       x .cpu ∙ ap (λ l. l .boot) same ∙ sym (y .cpu),
-      sym (listed bs (x .layout) (x .tokens) es (x .fills) (x .tree)) ∙ ap (entriesOf bs) same ∙ listed bs (y .layout) (y .tokens) fs (y .fills) (y .tree),
+      sym (lists bs (x .layout) (x .tokens) es (x .fills) (x .tree)) ∙ ap (entriesOf bs) same ∙ lists bs (y .layout) (y .tokens) fs (y .fills) (y .tree),
     )
 
 -- the counts of what is accepted are those of its entries
@@ -97,6 +101,17 @@ tallied bs l c v =
     let w = accepted-whole bs l (tokensFrom bs l (l .start)) c (l .start) (lexed bs l (tokensFrom bs l (l .start)) (l .start) (tokens-follow bs l (l .start))) v in
     let t = w .tally in
     record { nodes = ap (λ d. d .nodes) t ∙ omega arith; properties = ap (λ d. d .properties) t ∙ omega arith; weight = ap (λ d. d .weight) t ∙ omega arith }
+
+-- they come in a good order, and make a tree by the rules
+module _ (bs : Bytes) (l : Layout) (c : Counts) (v : verdict [] none (tokensFrom bs l (l .start)) ≡ Ok c) where
+  whole : Whole bs l (l .start) (sound (tokensFrom bs l (l .start))) (raw (tokensFrom bs l (l .start))) c
+  whole = accepted-whole bs l (tokensFrom bs l (l .start)) c (l .start) (lexed bs l (tokensFrom bs l (l .start)) (l .start) (tokens-follow bs l (l .start))) v
+
+  pub ordered : wellListed (entriesOf bs l) ≡ true
+  ordered = root-listed (whole .tree) (whole .within)
+
+  pub grown : l .boot < 2 ^ 32 → Sound (treeOf (l .boot) (entriesOf bs l))
+  grown b = listed-sound (l .boot) (entriesOf bs l) ordered (and-parts (roomy (listed (entriesOf bs l))) _ (whole .within) .0) b
 
 pub exact : (bs : Bytes) → Exact bs
 exact bs = record {

@@ -5,6 +5,7 @@ pub mod Complete
 pub mod Distinct
 pub mod Exact
 pub mod Handing
+pub mod Listed
 pub mod Noting
 pub mod Passing
 pub mod Tallied

@@ -6,7 +6,9 @@ ghost use Prim.Native.Nat.{ℕ, _+_, _≤_};
 ghost use Rattle.std.specs.Holes.{between};
 ghost use Rattle.std.specs.declared.option.Option.the-variants.{Some};
 ghost use Rattle.std.specs.declared.result.Result.the-variants.{Ok};
+ghost use Rattle.tree.specs.Entries.{treeOf, wellListed};
 ghost use Rattle.tree.specs.Places.{Bytes};
+ghost use Rattle.tree.specs.Trees.{Sound};
 ghost use Rattle.blob.specs.Header.{header};
 ghost use Rattle.blob.specs.Tokens.{begin, property, tokenAt};
 ghost use Rattle.reader.specs.Passing.{Bounded, Named, Restored, from, Passed, Noted};
@@ -189,6 +191,8 @@ pub fn read(bytes: &[u8]) -> Result<Flat<'_>, Refusal>
     ensures bytes { λ r. ⌜ made r (λ f. now (f .bytes) ≡ now (bytes .entry)) ⌝ }
     ensures layout { λ r. ⌜ made r (λ f. header (now (bytes .entry)) ≡ Ok (f .layout)) ⌝ }
     ensures counts { λ r. ⌜ made r (λ f. Tally (f .counts) (entriesOf (now (bytes .entry)) (f .layout))) ⌝ }
+    ensures listed { λ r. ⌜ made r (λ f. wellListed (entriesOf (now (bytes .entry)) (f .layout)) ≡ true) ⌝ }
+    ensures tree { λ r. ⌜ made r (λ f. Sound (treeOf (f .layout .boot) (entriesOf (now (bytes .entry)) (f .layout)))) ⌝ }
     ensures exact { λ _. ⌜ Exact (now (bytes .entry)) ⌝ }
 {
     let layout = check_header(bytes)?;
