@@ -1,8 +1,7 @@
 -- What a refusal says: its number, and its place in the blob. Assumes nothing.
-use mathlib.Core.List.{List, _++_}
+use mathlib.Core.List.{List}
 use Prim.Native.Nat.{ℕ}
 use lib.Chars.{codes}
-use Rattle.std.specs.Written.{decimal}
 use Rattle.blob.specs.declared.types.Refusal.{Refusal}
 use Rattle.blob.specs.declared.types.Refusal.the-variants.{NotABlob, Version, Blocks, TooLarge, Token, Name, Limit}
 
@@ -25,12 +24,12 @@ placeOf (Token at) = at
 placeOf (Name at) = at
 placeOf (Limit at) = at
 
--- the words for it, with the place in decimal
+-- the words for it, without its number and place
 abbrev pub wordsOf : Refusal → List ℕ
 wordsOf NotABlob = codes "not a blob"
 wordsOf Version = codes "not version 17 that is compatible with 16"
 wordsOf Blocks = codes "a block is misplaced, or memory is reserved"
 wordsOf TooLarge = codes "the blob is too large"
-wordsOf (Token at) = codes "a token is unknown, cut or out of place: " ++ decimal at
-wordsOf (Name at) = codes "a name is against the rules or used twice: " ++ decimal at
-wordsOf (Limit at) = codes "a limit is passed: " ++ decimal at
+wordsOf (Token at) = codes "a token is unknown, cut or out of place"
+wordsOf (Name at) = codes "a name is against the rules or used twice"
+wordsOf (Limit at) = codes "a limit is passed"

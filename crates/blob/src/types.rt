@@ -49,9 +49,9 @@ pub impl fmt::Display for Refusal as RefusalDisplay {
             Refusal::Version => write!(f, "not version 17 that is compatible with 16"),
             Refusal::Blocks => write!(f, "a block is misplaced, or memory is reserved"),
             Refusal::TooLarge => write!(f, "the blob is too large"),
-            Refusal::Token(at) => write!(f, "a token is unknown, cut or out of place: {at}"),
-            Refusal::Name(at) => write!(f, "a name is against the rules or used twice: {at}"),
-            Refusal::Limit(at) => write!(f, "a limit is passed: {at}"),
+            Refusal::Token(_) => write!(f, "a token is unknown, cut or out of place"),
+            Refusal::Name(_) => write!(f, "a name is against the rules or used twice"),
+            Refusal::Limit(_) => write!(f, "a limit is passed"),
         }
     }
 }
