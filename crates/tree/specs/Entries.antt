@@ -34,10 +34,14 @@ listed es = map (λ e. (e .place, e .value)) es
 abbrev pub samePlace : Place → Place → Bool
 samePlace k l = isEq (order k l)
 
+-- one of them passes
+abbrev pub some : {A : Type 0} → (A → Bool) → List A → Bool
+some p [] = false
+some p (x ∷ xs) = p x || some p xs
+
 -- is the place among these?
 abbrev pub amongPlaces : Place → List Place → Bool
-amongPlaces k [] = false
-amongPlaces k (l ∷ ls) = samePlace k l || amongPlaces k ls
+amongPlaces k ls = some (samePlace k) ls
 
 -- a node has no bytes
 abbrev pub bare : Place → Bytes → Bool
