@@ -1,3 +1,5 @@
+pub mod Classes
 pub mod Names
 pub mod Orders
+pub mod PathLaws
 pub mod Paths

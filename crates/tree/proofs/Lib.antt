@@ -1,3 +1,4 @@
+pub mod Listed
 pub mod MapLaws
 pub mod Maps
 pub mod Places

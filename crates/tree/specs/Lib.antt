@@ -1,4 +1,5 @@
 pub mod Entries
+pub mod EntryLaws
 pub mod MapLaws
 pub mod Maps
 pub mod Numbers

@@ -1,0 +1,4 @@
+pub mod Heads
+pub mod Lexed
+pub mod Shapes
+pub mod Steps

@@ -1,0 +1,3 @@
+// Tests of headers and tokens, apart from their crate so that it is not proved twice.
+#[cfg(test)]
+mod tests;

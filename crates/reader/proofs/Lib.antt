@@ -1,0 +1,11 @@
+pub mod Accepted
+pub mod Begun
+pub mod Children
+pub mod Complete
+pub mod Distinct
+pub mod Exact
+pub mod Handing
+pub mod Listed
+pub mod Noting
+pub mod Passing
+pub mod Tallied
