@@ -14,6 +14,7 @@ use Rattle.std.specs.Finite.{All}
 use Rattle.std.specs.shelf.Lookups.{by-order}
 use Rattle.names.specs.Names.{nodeByte, propertyByte, propertyName, nodeName}
 use Rattle.names.specs.Paths.{parts as pathParts, pathText, stem, behindLast, parent}
+use Rattle.tree.specs.Entries.{listedFrom}
 use Rattle.tree.specs.Maps.{find, upd, total}
 use Rattle.tree.specs.Numbers.{be32}
 use Rattle.tree.specs.Phandles.{handles, distinctHandles, holderOf, largestOf}
@@ -23,7 +24,7 @@ use Rattle.tree.proofs.Maps.{some-none, some-one}
 use Rattle.tree.proofs.Places.{place-order}
 use Rattle.overlay_rules.specs.Texts.{zeroEnded, split, digits, decimal, behind}
 use Rattle.overlay_rules.specs.Overlays.{valueAt, fragmentNodes, bodyEntries, strings, spots, numbersFrom, labelsOf, cellsOf, targetOf, overlayOf}
-use Rattle.overlay_rules.specs.Checks.{listedFrom, bodyHandles, handleFault, cellFault, check}
+use Rattle.overlay_rules.specs.Checks.{bodyHandles, handleFault, cellFault, check}
 use Rattle.overlay_rules.specs.Plans.{labelled, known, nodeThere, numberThere, imageOf, filled, lowest, twice, again, readSymbols, planned, allowed, plan, apply}
 use Rattle.overlay_rules.specs.Queries.{_>>=_, run, asked, forEach}
 use Rattle.overlay_rules.specs.Records.{distinct, notes, restore, savedBytes}

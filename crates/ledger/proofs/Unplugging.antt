@@ -8,10 +8,10 @@ use lib.Dec.{ltb}
 use Rattle.std.specs.declared.option.Option.{Option}
 use Rattle.std.specs.declared.option.Option.the-variants.{None, Some}
 use Rattle.std.proofs.shelf.Tests.{cond-true, cond-false, le-ltb}
+use Rattle.tree.specs.Entries.{samePlace}
 use Rattle.tree.specs.Places.{Place}
 use Rattle.tree.specs.Trees.{Tree}
 use Rattle.overlay_rules.specs.Laws.{In}
-use Rattle.overlay_rules.specs.Overlays.{samePlace}
 use Rattle.overlay_rules.specs.Plans.{Plan}
 use Rattle.overlay_rules.specs.Records.{Note, written, wrote, touches}
 use Rattle.overlay_rules.proofs.Lists.{some-true, some-in, none-some}

@@ -7,13 +7,13 @@ use lib.Chars.{codes}
 use lib.ListN.{replicate}
 use Rattle.std.specs.declared.option.Option.{Option}
 use Rattle.std.specs.declared.option.Option.the-variants.{None, Some}
-use Rattle.tree.specs.Entries.{Entry}
+use Rattle.tree.specs.Entries.{Entry, wellListed}
 use Rattle.tree.specs.Numbers.{bytes32}
 use Rattle.tree.specs.Phandles.{phandleRule}
 use Rattle.tree.specs.Places.{Bytes, propertyAt}
 use Rattle.std.specs.Finite.{All}
 use Rattle.tree.specs.Trees.{Tree, look, weight, Sound}
-use Rattle.overlay_rules.specs.Checks.{check, wellListed}
+use Rattle.overlay_rules.specs.Checks.{check}
 use Rattle.overlay_rules.specs.CheckExamples.{fixed}
 use Rattle.overlay_rules.specs.Overlays.{phandleAt}
 use Rattle.overlay_rules.specs.PlanExamples.{refers}

@@ -7,11 +7,11 @@ use lib.Dec.{eqb}
 use lib.ListN.{length}
 use Rattle.std.specs.declared.option.Option.the-variants.{None, Some}
 use Rattle.std.specs.declared.result.Result.the-variants.{Ok}
-use Rattle.tree.specs.Entries.{Entry}
+use Rattle.tree.specs.Entries.{Entry, wellListed}
 use Rattle.tree.specs.Phandles.{phandleRule}
 use Rattle.tree.specs.Places.{nodeAt}
 use Rattle.tree.specs.Trees.{Tree, look, Sound}
-use Rattle.overlay_rules.specs.Checks.{check, wellListed}
+use Rattle.overlay_rules.specs.Checks.{check}
 use Rattle.overlay_rules.specs.Laws.{Unique}
 use Rattle.overlay_rules.specs.Overlays.{symbolsPath}
 use Rattle.overlay_rules.specs.Plans.{Plan}

@@ -16,12 +16,12 @@ use Rattle.std.specs.shelf.Text.{sameBytes}
 use Rattle.std.proofs.shelf.Equals.{sameBytes-decides}
 use Rattle.std.proofs.shelf.Tests.{or-parts, or-cases, and-parts, and-cases, and-from, eqb-true, leb-true, ltb-false, not-false, not-true, cond-true, cond-false}
 use Rattle.names.specs.Names.{each}
-use Rattle.tree.specs.Entries.{Entry}
+use Rattle.tree.specs.Entries.{Entry, some}
 use Rattle.tree.specs.Numbers.{be32}
 use Rattle.tree.specs.Phandles.{isPhandle}
 use Rattle.tree.specs.Places.{Bytes, Place, propertyAt}
 use Rattle.tree.proofs.Maps.{some-none, some-one}
-use Rattle.overlay_rules.specs.Texts.{some, pick, joined, split, behind}
+use Rattle.overlay_rules.specs.Texts.{pick, joined, split, behind}
 use Rattle.overlay_rules.specs.Overlays.{fixupsPath, localsPath, targetAt, targetPathAt, valueAt, isListed, fragmentNodes, inBody, bodyEntries, Spot, spotOf, strings, spots, numbers, localSpots, Label, labelOf, labelsOf, localsBehind, localsOf, Cell, cellFor, cellsOf}
 use Rattle.overlay_rules.specs.Checks.{firstFault, handleIn, bodyHandles, goodTarget, badFragment, holdsCell, bodyValue, goodSpot, goodStrings, badFixup, goodCells, badLocalAt, badLocal, namedCells, shares, overlap, cellFault}
 use Rattle.overlay_rules.specs.Laws.{In}

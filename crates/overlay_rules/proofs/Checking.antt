@@ -13,12 +13,12 @@ use Rattle.std.specs.Finite.{All}
 use Rattle.std.specs.shelf.Text.{sameBytes}
 use Rattle.std.proofs.shelf.Equals.{sameBytes-decides}
 use Rattle.std.proofs.shelf.Tests.{or-parts, and-parts, eq-eqb, not-false, not-true}
-use Rattle.tree.specs.Entries.{Entry}
+use Rattle.tree.specs.Entries.{Entry, some}
 use Rattle.tree.specs.Numbers.{be32}
 use Rattle.tree.specs.Phandles.{isPhandle, validHandle}
 use Rattle.tree.specs.Places.{Bytes, Place}
 use Rattle.tree.proofs.Maps.{some-none, some-one}
-use Rattle.overlay_rules.specs.Texts.{some, pick, zeroEnded}
+use Rattle.overlay_rules.specs.Texts.{pick, zeroEnded}
 use Rattle.overlay_rules.specs.Overlays.{symbolsPath, fragmentNodes, inBody, bodyEntries, cellsAt, symbolBy, symbolOf, Item, Symbol, Overlay, overlayOf}
 use Rattle.overlay_rules.specs.Checks.{Refusal, firstFault, handleIn, bodyHandles, badHandle, seenWith, handleFault, badFragment, badFixup, badLocal, cellFault, bodyNode, badSymbol, refusedAt, badCount, check}
 use Rattle.overlay_rules.specs.Laws.{In}

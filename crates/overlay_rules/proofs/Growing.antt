@@ -19,16 +19,15 @@ use Rattle.std.proofs.shelf.Lists.{append-nil, append-assoc, length-append, nil
 use Rattle.std.proofs.shelf.Tests.{and-parts, and-from, eqb-true, leb-true, le-leb, cond-true, cond-false, ne-eqb, not-true}
 use Rattle.names.specs.Names.{nodeName, propertyName}
 use Rattle.names.specs.Paths.{root, pathText, under, parent}
-use Rattle.tree.specs.Entries.{Entry, listed}
+use Rattle.tree.specs.Entries.{Entry, listed, bare, listedFrom, samePlace, some, wellListed}
 use Rattle.tree.specs.Maps.{total}
 use Rattle.tree.specs.Numbers.{be32, bytes32}
 use Rattle.tree.specs.Phandles.{isPhandle}
 use Rattle.tree.specs.Places.{Bytes, Place, nodeAt, propertyAt}
 use Rattle.tree.specs.Trees.{Places, Tree, look, change, shortPlace, namedPlace, upPlace}
 use Rattle.tree.proofs.Maps.{some-none, some-one}
-use Rattle.overlay_rules.specs.Texts.{some, given, pick, slashed, behind}
-use Rattle.overlay_rules.specs.Overlays.{symbolsPath, bodyPath, samePlace, valueAt, isListed, special, isFragmentPath, fragmentOf, fragmentNodes, inBody, bodyEntries, targetOf, Fragment, Item, Symbol, Overlay, overlayOf}
-use Rattle.overlay_rules.specs.Checks.{bare, listedFrom, wellListed}
+use Rattle.overlay_rules.specs.Texts.{given, pick, slashed, behind}
+use Rattle.overlay_rules.specs.Overlays.{symbolsPath, bodyPath, valueAt, isListed, special, isFragmentPath, fragmentOf, fragmentNodes, inBody, bodyEntries, targetOf, Fragment, Item, Symbol, Overlay, overlayOf}
 use Rattle.overlay_rules.specs.Queries.{run, forEach}
 use Rattle.overlay_rules.specs.Plans.{Known, Located, located, imageOf, finalBytes, filled, imageEntry, symbolEntry, images, Touch, there, put, ifThere, touch, putIn, Share, shareOf, belowTop, shared, Plan, planned, plan, apply}
 use Rattle.overlay_rules.specs.Laws.{Rising, In}

@@ -12,12 +12,10 @@ use Rattle.std.specs.Finite.{All}
 use Rattle.std.proofs.shelf.Lists.{nil-from-length}
 use Rattle.std.proofs.shelf.Tests.{and-parts, and-from, not-true, eqb-true, cond-true, cond-false}
 use Rattle.names.specs.Paths.{root, pathText}
-use Rattle.tree.specs.Entries.{Entry}
+use Rattle.tree.specs.Entries.{Entry, bare, listedFrom, listedNext, samePlace, some, wellListed}
 use Rattle.tree.specs.Places.{Bytes, Place, nodeAt}
 use Rattle.tree.specs.Trees.{namedPlace, shortPlace, upPlace}
-use Rattle.overlay_rules.specs.Texts.{some}
-use Rattle.overlay_rules.specs.Overlays.{samePlace, valueAt}
-use Rattle.overlay_rules.specs.Checks.{bare, listedNext, listedFrom, wellListed}
+use Rattle.overlay_rules.specs.Overlays.{valueAt}
 use Rattle.overlay_rules.specs.Laws.{In}
 use Rattle.overlay_rules.proofs.Lists.{all-at, some-false, some-true}
 use Rattle.overlay_rules.proofs.Looks.{same-place, place-from, place-not, not-place}

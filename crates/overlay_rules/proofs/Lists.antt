@@ -10,7 +10,8 @@ use Rattle.std.specs.declared.option.Option.the-variants.{None, Some}
 use Rattle.std.specs.Finite.{All}
 use Rattle.std.proofs.shelf.Tests.{or-parts, or-left, or-right, and-parts}
 use Rattle.names.specs.Names.{each}
-use Rattle.overlay_rules.specs.Texts.{some, given, pick, joined}
+use Rattle.tree.specs.Entries.{some}
+use Rattle.overlay_rules.specs.Texts.{given, pick, joined}
 use Rattle.overlay_rules.specs.Laws.{In}
 
 pub all-at : {A : Type 0} (P : A → Type 0) (a : A) (xs : List A) → All P xs → In a xs → P a

@@ -18,6 +18,7 @@ use Rattle.std.specs.shelf.Text.{sameBytes}
 use Rattle.std.proofs.shelf.Equals.{sameBytes-decides}
 use Rattle.std.proofs.shelf.Tests.{or-parts, or-left, or-right, and-parts, and-from, eq-eqb, eqb-true, not-true, not-from-false}
 use Rattle.names.specs.Names.{each}
+use Rattle.tree.specs.Entries.{samePlace}
 use Rattle.tree.specs.Maps.{find, upd, Rises, Below}
 use Rattle.tree.specs.Numbers.{be32}
 use Rattle.tree.specs.Phandles.{isPhandle, handleOn, handles, validHandle, sharesWith, distinctHandles, phandleRule, largestOf, largestPhandle, holderOf, holder}
@@ -26,7 +27,7 @@ use Rattle.tree.specs.Trees.{Places, Tree, look, change}
 use Rattle.tree.proofs.Maps.{same, some-none, some-one, find-same, find-other, rises-upd, ext, head-found, find-below, find-tail}
 use Rattle.tree.proofs.MapLaws.{decide}
 use Rattle.tree.proofs.Places.{place-order}
-use Rattle.overlay_rules.specs.Overlays.{phandleAt, samePlace}
+use Rattle.overlay_rules.specs.Overlays.{phandleAt}
 use Rattle.overlay_rules.specs.Laws.{Rising, In, Valid, Unique, Fewer, Same-at}
 use Rattle.overlay_rules.proofs.Lists.{all-at, all-from, each-all, all-each, in-cases, in-left, in-right}
 

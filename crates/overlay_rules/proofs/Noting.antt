@@ -12,13 +12,13 @@ use Rattle.std.specs.Finite.{All}
 use Rattle.std.specs.shelf.Text.{sameBytes}
 use Rattle.std.proofs.shelf.Equals.{sameBytes-decides}
 use Rattle.std.proofs.shelf.Tests.{or-right}
-use Rattle.tree.specs.Entries.{Entry}
+use Rattle.tree.specs.Entries.{Entry, samePlace, some}
 use Rattle.tree.specs.Phandles.{isPhandle}
 use Rattle.tree.specs.Places.{Bytes, Place, nodeAt, propertyAt}
 use Rattle.tree.specs.Trees.{Tree, look}
 use Rattle.tree.proofs.Maps.{some-none}
-use Rattle.overlay_rules.specs.Texts.{some, pick, joined}
-use Rattle.overlay_rules.specs.Overlays.{symbolsPath, phandleAt, samePlace, Fragment, Overlay}
+use Rattle.overlay_rules.specs.Texts.{pick, joined}
+use Rattle.overlay_rules.specs.Overlays.{symbolsPath, phandleAt, Fragment, Overlay}
 use Rattle.overlay_rules.specs.Queries.{run}
 use Rattle.overlay_rules.specs.Plans.{Known, labelled, Located, located, images, Touch, there, put, touch, thereIn, once, Plan, hasLabels, knownReads, plan}
 use Rattle.overlay_rules.specs.Records.{Note, distinct, readNote, writeNote, notes}

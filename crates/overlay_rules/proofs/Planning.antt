@@ -13,14 +13,14 @@ use Rattle.std.specs.declared.result.Result.{Result}
 use Rattle.std.specs.declared.result.Result.the-variants.{Ok, Err}
 use Rattle.std.specs.Finite.{All}
 use Rattle.std.proofs.shelf.Tests.{ltb-false}
-use Rattle.tree.specs.Entries.{Entry}
+use Rattle.tree.specs.Entries.{Entry, samePlace, some}
 use Rattle.tree.specs.Numbers.{be32}
 use Rattle.tree.specs.Phandles.{holder}
 use Rattle.tree.specs.Places.{Bytes, Place, nodeAt, propertyAt}
 use Rattle.tree.specs.Trees.{Tree, look}
 use Rattle.tree.proofs.Maps.{some-none, some-one}
-use Rattle.overlay_rules.specs.Texts.{some, pick, joined, zeroEnded}
-use Rattle.overlay_rules.specs.Overlays.{symbolsPath, phandleAt, samePlace, Label, Target, byPath, byNumber, byLabel, Fragment, Overlay}
+use Rattle.overlay_rules.specs.Texts.{pick, joined, zeroEnded}
+use Rattle.overlay_rules.specs.Overlays.{symbolsPath, phandleAt, Label, Target, byPath, byNumber, byLabel, Fragment, Overlay}
 use Rattle.overlay_rules.specs.Queries.{Query, done, refuse, ask, seek, _>>=_, run, sought, asked, need, stopAt, forEach}
 use Rattle.overlay_rules.specs.Plans.{Known, labelled, known, Located, nodeThere, numberThere, located, images, Touch, there, put, ifThere, touch, putIn, thereIn, lower, lowest, laterOf, twice, once, againAt, again, longAt, Plan, overlayHandles, raisedPast, hasLabels, readSymbols, knownReads, readsOf, planned, allowed, plan, apply}
 use Rattle.overlay_rules.specs.Laws.{Rising, In, Free, Off, Fewer}

@@ -13,15 +13,15 @@ use Rattle.std.specs.declared.result.Result.the-variants.{Ok}
 use Rattle.std.specs.Finite.{All}
 use Rattle.std.specs.shelf.Text.{sameBytes}
 use Rattle.std.proofs.shelf.Equals.{sameBytes-decides}
-use Rattle.tree.specs.Entries.{Entry}
+use Rattle.tree.specs.Entries.{Entry, some, wellListed}
 use Rattle.tree.specs.Numbers.{be32, bytes32}
 use Rattle.tree.specs.Phandles.{isPhandle, handleOn, handles, holderOf}
 use Rattle.tree.specs.Places.{Bytes, Place, propertyAt}
 use Rattle.tree.specs.Trees.{Places, Tree, look}
 use Rattle.tree.proofs.Maps.{some-none, some-one}
-use Rattle.overlay_rules.specs.Texts.{some, pick, joined}
+use Rattle.overlay_rules.specs.Texts.{pick, joined}
 use Rattle.overlay_rules.specs.Overlays.{phandleAt, valueAt, fragmentNodes, inBody, bodyEntries, Cell, Label, labelsOf, cellsOf, cellsAt, Item, Overlay, overlayOf}
-use Rattle.overlay_rules.specs.Checks.{handleIn, bodyHandles, wellListed}
+use Rattle.overlay_rules.specs.Checks.{handleIn, bodyHandles}
 use Rattle.overlay_rules.specs.Queries.{run, forEach}
 use Rattle.overlay_rules.specs.Plans.{Known, labelled, known, Located, imageOf, cellNumber, filled, finalBytes, imageEntry, symbolEntry, images, putIn, itemPlaces, imageIf, meantBy, cellsIn, itemReferences, Reference, Plan, overlayHandles, planned, plan, apply}
 use Rattle.overlay_rules.specs.Laws.{Rising, In, Valid, Points}

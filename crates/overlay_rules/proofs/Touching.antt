@@ -9,12 +9,12 @@ use Rattle.std.specs.declared.option.Option.the-variants.{None, Some}
 use Rattle.std.specs.declared.result.Result.the-variants.{Ok, Err}
 use Rattle.std.specs.Finite.{All}
 use Rattle.std.proofs.shelf.Tests.{or-parts}
-use Rattle.tree.specs.Entries.{Entry}
+use Rattle.tree.specs.Entries.{Entry, samePlace, some}
 use Rattle.tree.specs.Places.{Bytes, Place, nodeAt}
 use Rattle.tree.specs.Trees.{Tree, look, change}
 use Rattle.tree.proofs.Maps.{some-none, some-one}
-use Rattle.overlay_rules.specs.Texts.{some, pick, joined}
-use Rattle.overlay_rules.specs.Overlays.{symbolsPath, phandleAt, samePlace, Overlay}
+use Rattle.overlay_rules.specs.Texts.{pick, joined}
+use Rattle.overlay_rules.specs.Overlays.{symbolsPath, phandleAt, Overlay}
 use Rattle.overlay_rules.specs.Queries.{Query, done, ask, run, asked, forEach}
 use Rattle.overlay_rules.specs.Plans.{Known, labelled, Located, located, images, Touch, there, put, touch, putIn, thereIn, once, Plan, hasLabels, readSymbols, knownReads, readsOf, planned, plan, allowed, apply}
 use Rattle.overlay_rules.specs.Records.{Mark, wasRead, created, earlier, Note, distinct, markOf, readNote, writeNote, notes, putBack, restore, written, wrote, touches}

@@ -10,11 +10,6 @@ use Rattle.std.specs.shelf.Text.{sameBytes}
 use Rattle.names.specs.Names.{each, inRange}
 use Rattle.tree.specs.Places.{Bytes}
 
--- one of them passes
-abbrev pub some : {A : Type 0} → (A → Bool) → List A → Bool
-some p [] = false
-some p (x ∷ xs) = p x || some p xs
-
 -- what the elements give that give something
 abbrev pub given : {A : Type 0} → Option A → List A → List A
 given None xs = xs
