@@ -11,11 +11,11 @@ use Rattle.std.proofs.shelf.Tests.{cond-true, cond-false, le-ltb}
 use Rattle.tree.specs.Entries.{samePlace}
 use Rattle.tree.specs.Places.{Place}
 use Rattle.tree.specs.Trees.{Tree}
+use Rattle.tree.proofs.Listed.{same-self, same-only}
 use Rattle.overlay_rules.specs.Laws.{In}
 use Rattle.overlay_rules.specs.Plans.{Plan}
 use Rattle.overlay_rules.specs.Records.{Note, written, wrote, touches}
 use Rattle.overlay_rules.proofs.Lists.{some-true, some-in, none-some}
-use Rattle.overlay_rules.proofs.Looks.{place-from, same-place}
 use Rattle.ledger.specs.Ledgers.{Line, mergeAll, room, Socket, empty, held, shelved, Ledger, socketAt, parts, blocker, unplug, Answer, granted, refused, bySocket, no, strikeBy, unplugBy, step}
 use Rattle.ledger.specs.Invariants.{Line-at, Made, occupied, Kept}
 use Rattle.ledger.specs.Promises.{Can-be-done, Each-can-be-done, Touches, None-touches, Unplugs}
@@ -24,7 +24,7 @@ use Rattle.ledger.proofs.Keeping.{mine}
 use Rattle.ledger.proofs.Striking.{all-join}
 
 written-at : (b : Bool) (k j : Place) → cond b (samePlace k j) false ≡ true → (b ≡ true) × (k ≡ j)
-written-at true k j h = (refl, place-from k j h)
+written-at true k j h = (refl, same-only k j h)
 written-at false k j h = absurd (true≢false (sym h))
 
 pub touches-true : (x y : Line) → touches (x .entries) (y .entries) ≡ true → Touches y x
@@ -38,7 +38,7 @@ pub true-touches : (x y : Line) → Touches y x → touches (x .entries) (y .ent
 true-touches x y (n, m, i, j, w, e) =
     some-in (λ n. wrote (x .entries) (n .place)) n (y .entries) i
     (some-in (λ m. cond (written (m .mark)) (samePlace (m .place) (n .place)) false) m (x .entries) j
-    (cond-true (written (m .mark)) _ _ w ∙ ap (samePlace (m .place)) e ∙ same-place (m .place)))
+    (cond-true (written (m .mark)) _ _ w ∙ ap (samePlace (m .place)) e ∙ same-self (m .place)))
 
 pub not-touched : (x y : Line) → (Touches y x → ⊥) → touches (x .entries) (y .entries) ≡ false
 not-touched x y n = go (touches (x .entries) (y .entries)) refl

@@ -19,12 +19,14 @@ use Rattle.std.proofs.shelf.Lists.{append-nil, append-assoc, length-append, nil
 use Rattle.std.proofs.shelf.Tests.{and-parts, and-from, eqb-true, leb-true, le-leb, cond-true, cond-false, ne-eqb, not-true}
 use Rattle.names.specs.Names.{nodeName, propertyName}
 use Rattle.names.specs.Paths.{root, pathText, under, parent}
+use Rattle.names.proofs.PathLaws.{parent-of}
 use Rattle.tree.specs.Entries.{Entry, listed, bare, listedFrom, samePlace, some, wellListed}
 use Rattle.tree.specs.Maps.{total}
 use Rattle.tree.specs.Numbers.{be32, bytes32}
 use Rattle.tree.specs.Phandles.{isPhandle}
 use Rattle.tree.specs.Places.{Bytes, Place, nodeAt, propertyAt}
 use Rattle.tree.specs.Trees.{Places, Tree, look, change, shortPlace, namedPlace, upPlace}
+use Rattle.tree.proofs.Listed.{same-only}
 use Rattle.tree.proofs.Maps.{some-none, some-one}
 use Rattle.overlay_rules.specs.Texts.{given, pick, slashed, behind}
 use Rattle.overlay_rules.specs.Overlays.{symbolsPath, bodyPath, valueAt, isListed, special, isFragmentPath, fragmentOf, fragmentNodes, inBody, bodyEntries, targetOf, Fragment, Item, Symbol, Overlay, overlayOf}
@@ -32,7 +34,7 @@ use Rattle.overlay_rules.specs.Queries.{run, forEach}
 use Rattle.overlay_rules.specs.Plans.{Known, Located, located, imageOf, finalBytes, filled, imageEntry, symbolEntry, images, Touch, there, put, ifThere, touch, putIn, Share, shareOf, belowTop, shared, Plan, planned, plan, apply}
 use Rattle.overlay_rules.specs.Laws.{Rising, In}
 use Rattle.overlay_rules.proofs.Lists.{all-at, all-from, in-cases, in-left, in-right, in-map, in-map-from, in-pick, in-pick-from, some-true, some-in}
-use Rattle.overlay_rules.proofs.Looks.{place-from, same-place, look-same, rises-change}
+use Rattle.overlay_rules.proofs.Looks.{look-same, rises-change}
 use Rattle.overlay_rules.proofs.Asking.{ok-one, gave, gave-from, gave-to, run-bind}
 use Rattle.overlay_rules.proofs.Journals.{rises-apply}
 use Rattle.overlay_rules.proofs.Planning.{Allowed, Located-at, located-is, touchAll, Planned}
@@ -42,7 +44,7 @@ use Rattle.overlay_rules.proofs.Cells.{cell-good, Within}
 use Rattle.overlay_rules.proofs.Filling.{length-filled}
 use Rattle.overlay_rules.proofs.Listing.{Good-entry, Next, listed-next, Well, well, all-good, value-at}
 use Rattle.overlay_rules.proofs.References.{body-listed, item-value, item-cells}
-use Rattle.overlay_rules.proofs.Pathing.{behind-is, behind-from, last-of, Last, parent-is, parent-under, path-under, Match, match, slashes, slashes-join, child-slashes}
+use Rattle.overlay_rules.proofs.Pathing.{behind-is, behind-from, last-of, Last, parent-under, path-under, Match, match, slashes, slashes-join, child-slashes}
 use Rattle.overlay_rules.proofs.Shapes.{Shape, Fits-in, Grows, grown, grows-join, node-stays, node-put, shape-put, cost-join}
 
 -- ---- touches, as a function of the tree
@@ -107,7 +109,7 @@ value-some [] k v h = absurd (some-none v (sym h))
 value-some (x ∷ es) k v h = go (samePlace (x .place) k) refl (value-some es k v) h
   where
     go : (b : Bool) → samePlace (x .place) k ≡ b → (valueAt es k ≡ Some v → (e : Entry) × In e es × (e .place ≡ k)) → cond b (Some (x .value)) (valueAt es k) ≡ Some v → (e : Entry) × In e (x ∷ es) × (e .place ≡ k)
-    go true e ih h = (x, inl refl, place-from (x .place) k e)
+    go true e ih h = (x, inl refl, same-only (x .place) k e)
     go false e ih h = let r = ih h in (r .0, inr (r .1), r .2)
 
 is-some : {A : Type 0} (o : Option A) → isSome o ≡ true → (a : A) × (o ≡ Some a)
@@ -227,7 +229,7 @@ module _ (t : Tree) (es : List Entry) (d : ℕ) (p : Plan) (w : wellListed es �
       let behind-ok : behind (bodyPath (f .0 .place .0)) (l .body ++ L .pre) ≡ Some (L .pre) = ap (λ z. behind z (l .body ++ L .pre)) (sym (f .2)) ∙ behind-from (l .body) (L .pre) pre-ok in
       record {
         up = l .body ++ L .pre;
-        is = ap parent eq ∙ parent-is (l .body ++ L .pre) (L .name) (L .free) ∙ cond-false _ _ _ (ne-eqb _ 0 ne);
+        is = ap parent eq ∙ parent-of (l .body ++ L .pre) (L .name) (L .free) ∙ cond-false _ _ _ (ne-eqb _ 0 ne);
         body = some-in (λ f. isSome (behind (bodyPath (f .place .0)) (l .body ++ L .pre))) (f .0) (fragmentNodes es) (f .1) (ap isSome behind-ok);
         image = ap parent (M .image ∙ ap (under (l .to)) er) ∙ parent-under (l .to) (L .pre) (L .name) (L .free) (sh .named (nodeAt (l .to)) [] (f .3)) ∙ sym (M .above (L .pre) (L .name) er);
       }
@@ -482,9 +484,6 @@ module _ (t : Tree) (es : List Entry) (d : ℕ) (p : Plan) (w : wellListed es �
   cost-items f (i ∷ xs) inc =
       go (belowTop (overlayOf es) i (i .place)) refl (putIn (touchOf t (imageEntry (m .env) d (m .ls) i) (imageEntry (m .env) d (m .ls) i .place))) (put-read t (imageEntry (m .env) d (m .ls) i) (imageEntry (m .env) d (m .ls) i .place) refl) (cost-items f xs (λ j k. inc j (inr k)))
     where
-      A : ℕ
-      A = total f (listed (puts t (map (imageEntry (m .env) d (m .ls)) xs)))
-
       put-cost : (o : Option Entry) → o ≡ Some (imageEntry (m .env) d (m .ls) i) → total f (listed (given o (puts t (map (imageEntry (m .env) d (m .ls)) xs)))) ≡ f (imageEntry (m .env) d (m .ls) i .place) (imageEntry (m .env) d (m .ls) i .value) + total f (listed (puts t (map (imageEntry (m .env) d (m .ls)) xs)))
       put-cost o e = ap (λ z. total f (listed (given z (puts t (map (imageEntry (m .env) d (m .ls)) xs))))) e
 

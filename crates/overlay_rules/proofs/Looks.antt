@@ -24,6 +24,7 @@ use Rattle.tree.specs.Numbers.{be32}
 use Rattle.tree.specs.Phandles.{isPhandle, handleOn, handles, validHandle, sharesWith, distinctHandles, phandleRule, largestOf, largestPhandle, holderOf, holder}
 use Rattle.tree.specs.Places.{Bytes, Place, order}
 use Rattle.tree.specs.Trees.{Places, Tree, look, change}
+use Rattle.tree.proofs.Listed.{same-self, same-only}
 use Rattle.tree.proofs.Maps.{same, some-none, some-one, find-same, find-other, rises-upd, ext, head-found, find-below, find-tail}
 use Rattle.tree.proofs.MapLaws.{decide}
 use Rattle.tree.proofs.Places.{place-order}
@@ -55,25 +56,14 @@ tree-ext s t b rs rt h = let e = ext place-order (s .places) (t .places) rs rt h
 pub decide-place : (x y : Place) → (x ≡ y) ⊎ (x ≡ y → ⊥)
 decide-place = decide place-order
 
-pub same-place : (k : Place) → samePlace k k ≡ true
-same-place k = ap isEq (same place-order k)
-
-pub place-from : (k l : Place) → samePlace k l ≡ true → k ≡ l
-place-from k l h = go (order k l) refl h
-  where
-    go : (o : Ordering) → order k l ≡ o → isEq o ≡ true → k ≡ l
-    go Less e h = absurd (true≢false (sym h))
-    go Equal e h = place-order .exact k l e
-    go Greater e h = absurd (true≢false (sym h))
-
 pub place-not : (k l : Place) → samePlace k l ≡ false → k ≡ l → ⊥
-place-not k l h e = true≢false (sym (same-place l) ∙ ap (λ z. samePlace z l) (sym e) ∙ h)
+place-not k l h e = true≢false (sym (same-self l) ∙ ap (λ z. samePlace z l) (sym e) ∙ h)
 
 pub not-place : (k l : Place) → (k ≡ l → ⊥) → samePlace k l ≡ false
 not-place k l n = go (samePlace k l) refl
   where
     go : (b : Bool) → samePlace k l ≡ b → samePlace k l ≡ false
-    go true e = absurd (n (place-from k l e))
+    go true e = absurd (n (same-only k l e))
     go false e = e
 
 -- ---- handles
