@@ -21,7 +21,7 @@ use Rattle.ledger.specs.Invariants.{Line-at, Made, occupied, Kept}
 use Rattle.ledger.specs.Promises.{Can-be-done, Each-can-be-done, Touches, None-touches, Unplugs}
 use Rattle.ledger.proofs.Sockets.{Found, room-front}
 use Rattle.ledger.proofs.Keeping.{mine}
-use Rattle.ledger.proofs.Striking.{all-join}
+use Rattle.ledger.proofs.Striking.{all-join, not-blocked}
 
 written-at : (b : Bool) (k j : Place) → cond b (samePlace k j) false ≡ true → (b ≡ true) × (k ≡ j)
 written-at true k j h = (refl, same-only k j h)
@@ -52,6 +52,12 @@ pub free-none : (x : Line) (ls : List Line) → None-touches ls x → blocker (x
 unfolding blocker
 free-none x [] n = refl
 free-none x (l ∷ ls) n = cond-false _ _ _ (not-touched x l (n l (inl refl))) ∙ free-none x ls (λ y i. n y (inr i))
+
+-- where nobody blocks, none touches
+pub touches-none : (x : Line) (ls : List Line) → blocker (x .entries) ls ≡ None → None-touches ls x
+touches-none x [] h y i t = i
+touches-none x (l ∷ ls) h y (inl p) t = true≢false (sym (true-touches x l (subst (λ z. Touches z x) p t)) ∙ not-blocked (x .entries) l ls h .0)
+touches-none x (l ∷ ls) h y (inr i) t = touches-none x ls (not-blocked (x .entries) l ls h .1) y i t
 
 -- the earliest blocks
 first-blocks : (x : Line) (ys : List Line) (y : Line) (zs : List Line) → None-touches ys x → Touches y x → blocker (x .entries) (ys ++ (y ∷ zs)) ≡ Some (y .socket)
