@@ -1,0 +1,12 @@
+pub mod Arranged
+pub mod Around
+pub mod Becomes
+pub mod Descent
+pub mod Finds
+pub mod Looks
+pub mod Outcomes
+pub mod Sounds
+pub mod Splices
+pub mod Stems
+pub mod Sums
+pub mod Turns
