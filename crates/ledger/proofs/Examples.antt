@@ -64,7 +64,7 @@ worked = record {
 pub refusals : Refusals
 unfolding nodeByte propertyByte propertyName nodeName pathParts pathText stem behindLast parent find upd total be32 handles distinctHandles holderOf largestOf look change zeroEnded split digits decimal behind valueAt fragmentNodes bodyEntries strings spots numbersFrom labelsOf cellsOf targetOf overlayOf listedFrom bodyHandles handleFault cellFault check labelled known nodeThere numberThere imageOf filled lowest twice again readSymbols planned allowed plan apply _>>=_ run asked forEach distinct notes restore savedBytes mergeAll sum room parts blocker step history answers
 refusals = record {
-  shut-plug = refl;
+  closed-calls = refl;
   bad-handle = refl;
   no-symbols = refl;
   opened-twice = refl;

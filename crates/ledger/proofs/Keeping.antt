@@ -28,7 +28,7 @@ use Rattle.overlay_rules.proofs.Checking.{passed}
 use Rattle.overlay_rules.proofs.Looks.{rule-unique, at-most-largest}
 use Rattle.overlay_rules.proofs.Planning.{plan-is}
 use Rattle.overlay_rules.proofs.Rules.{keeps-unique}
-use Rattle.ledger.specs.Ledgers.{Line, planAt, merge, mergeAll, sum, room, Socket, empty, held, shelved, Ledger, ledgerTree, fresh, socketAt, Parts, parts, blocker, Call, opening, plug, unplug, handOver, takeBack, Answer, plugged, receipt, granted, refused, bySocket, no, turned, line, plugBy, plugIn, strikeBy, unplugBy, step, Book, shut, opened, openBy, shutCall, call, history}
+use Rattle.ledger.specs.Ledgers.{Line, planAt, merge, mergeAll, sum, room, Socket, empty, held, shelved, Ledger, ledgerTree, fresh, socketAt, Parts, parts, blocker, Call, opening, plug, unplug, handOver, takeBack, Answer, plugged, receipt, granted, refused, bySocket, no, turned, line, plugBy, plugIn, strikeBy, unplugBy, step, State, closed, opened, openBy, closedCall, call, history}
 use Rattle.ledger.specs.Invariants.{Fit, Fit-call, Line-at, Made, count, occupied, Kept}
 use Rattle.ledger.proofs.Sockets.{count-join, count-other, count-own, count-none, Found, found, tied-again, Roomy, is-room, room-struck}
 use Rattle.ledger.proofs.Striking.{merge-is, rises-all, struck, Struck, made-push, all-push}
@@ -242,28 +242,28 @@ step-base g (takeBack k) = go (ltb 15 k) (socketAt g k)
     go false held = refl
     go false shelved = refl
 
--- a book of the tree t: closed over it, or a ledger on it that is kept
-abbrev pub Book-of : Tree → Book → Type 0
-Book-of t (shut u) = u ≡ t
-Book-of t (opened g) = (g .base ≡ t) × Kept g
+-- a state over the tree t: closed, or a ledger on it that is kept
+abbrev pub State-of : Tree → State → Type 0
+State-of t (closed u) = u ≡ t
+State-of t (opened g) = (g .base ≡ t) × Kept g
 
-open-kept : (t : Tree) → Sound t → (b : Bool) → phandleRule t ≡ b → (w : Option Bytes) → look t (nodeAt symbolsPath) ≡ w → Book-of t (openBy t b w .1)
+open-kept : (t : Tree) → Sound t → (b : Bool) → phandleRule t ≡ b → (w : Option Bytes) → look t (nodeAt symbolsPath) ≡ w → State-of t (openBy t b w .1)
 open-kept t s false r w h = refl
 open-kept t s true r None h = refl
 open-kept t s true r (Some v) h = (refl, fresh-kept t v s r h)
 
-shut-kept : (t u : Tree) → Sound t → (c : Call) → u ≡ t → Book-of t (shutCall u c .1)
-shut-kept t u s opening e = subst (λ z. Book-of t (shutCall z opening .1)) (sym e) (open-kept t s (phandleRule t) refl (look t (nodeAt symbolsPath)) refl)
-shut-kept t u s (plug n k es) e = e
-shut-kept t u s (unplug n k) e = e
-shut-kept t u s (handOver k) e = e
-shut-kept t u s (takeBack k) e = e
+closed-kept : (t u : Tree) → Sound t → (c : Call) → u ≡ t → State-of t (closedCall u c .1)
+closed-kept t u s opening e = subst (λ z. State-of t (closedCall z opening .1)) (sym e) (open-kept t s (phandleRule t) refl (look t (nodeAt symbolsPath)) refl)
+closed-kept t u s (plug n k es) e = e
+closed-kept t u s (unplug n k) e = e
+closed-kept t u s (handOver k) e = e
+closed-kept t u s (takeBack k) e = e
 
-pub call-kept : (t : Tree) → Sound t → (b : Book) (c : Call) → Fit-call c → Book-of t b → Book-of t (call b c .1)
-call-kept t s (shut u) c f h = shut-kept t u s c h
+pub call-kept : (t : Tree) → Sound t → (b : State) (c : Call) → Fit-call c → State-of t b → State-of t (call b c .1)
+call-kept t s (closed u) c f h = closed-kept t u s c h
 call-kept t s (opened g) c f h = (step-base g c ∙ h .0, step-kept g (h .1) c f)
 
-pub history-kept : (t : Tree) → Sound t → (cs : List Call) (b : Book) → All Fit-call cs → Book-of t b → Book-of t (history b cs)
+pub history-kept : (t : Tree) → Sound t → (cs : List Call) (b : State) → All Fit-call cs → State-of t b → State-of t (history b cs)
 unfolding history
 history-kept t s [] b f h = h
 history-kept t s (c ∷ cs) b f h = history-kept t s cs (call b c .1) (f .1) (call-kept t s b c (f .0) h)

@@ -23,10 +23,10 @@ use Rattle.overlay_rules.proofs.Looks.{rule-valid, rule-unique, rule-from}
 use Rattle.overlay_rules.proofs.References.{points}
 use Rattle.overlay_rules.proofs.Rules.{keeps-valid}
 use Rattle.overlay_rules.proofs.Touching.{plan-fewer, wrote-none}
-use Rattle.ledger.specs.Ledgers.{Line, merge, mergeAll, Ledger, ledgerTree, Call, Book, shut, opened, history}
+use Rattle.ledger.specs.Ledgers.{Line, merge, mergeAll, Ledger, ledgerTree, Call, State, closed, opened, history}
 use Rattle.ledger.specs.Invariants.{Fit-call, Line-at, Made, Kept}
 use Rattle.ledger.specs.Promises.{Stands, Refers, Promise, Promised, Every-history, Invariant}
-use Rattle.ledger.proofs.Keeping.{fresh-kept, step-kept, Book-of, history-kept}
+use Rattle.ledger.proofs.Keeping.{fresh-kept, step-kept, State-of, history-kept}
 use Rattle.ledger.proofs.Sounding.{tree-sound}
 use Rattle.ledger.proofs.Striking.{merge-is, line-plan, rises-merge, rises-all, all-join}
 use Rattle.ledger.proofs.Unplugging.{unplugs, made-at, made-behind, each-can-be-done}
@@ -105,12 +105,12 @@ module _ (g : Ledger) (kept : Kept g) where
     refers = refers;
   }
 
-promised : (t : Tree) (b : Book) → Book-of t b → Promised t b
-promised t (shut u) h = h
+promised : (t : Tree) (b : State) → State-of t b → Promised t b
+promised t (closed u) h = h
 promised t (opened g) h = (h .0, promise g (h .1))
 
 pub every-history : Every-history
-every-history t calls s f = promised t (history (shut t) calls) (history-kept t s calls (shut t) f refl)
+every-history t calls s f = promised t (history (closed t) calls) (history-kept t s calls (closed t) f refl)
 
 pub invariant : Invariant
 invariant = record { opens = fresh-kept; steps = λ g k c f. step-kept g k c f; promises = promise }

@@ -4,21 +4,23 @@ use mathlib.Core.Bool.{Bool, true, false, cond, _&&_, _||_, true≢false}
 use mathlib.Core.List.{List, [], _∷_, _++_}
 use mathlib.Core.Logic.{_⊎_, inl, inr, ⊎-elim}
 use Prim.Native.Nat.{ℕ, _≤_}
+use native.Mathlib.Omega.{arith}
 use lib.Dec.{ltb}
 use Rattle.std.specs.declared.option.Option.{Option}
 use Rattle.std.specs.declared.option.Option.the-variants.{None, Some}
 use Rattle.std.proofs.shelf.Tests.{cond-true, cond-false, le-ltb}
 use Rattle.tree.specs.Entries.{samePlace}
 use Rattle.tree.specs.Places.{Place}
+use Rattle.tree.proofs.Maps.{some-none, some-one}
 use Rattle.tree.specs.Trees.{Tree}
 use Rattle.tree.proofs.Listed.{same-self, same-only}
 use Rattle.overlay_rules.specs.Laws.{In}
 use Rattle.overlay_rules.specs.Plans.{Plan}
 use Rattle.overlay_rules.specs.Records.{Note, written, wrote, touches}
 use Rattle.overlay_rules.proofs.Lists.{some-true, some-in, none-some}
-use Rattle.ledger.specs.Ledgers.{Line, mergeAll, room, Socket, empty, held, shelved, Ledger, socketAt, parts, blocker, unplug, Answer, granted, refused, bySocket, no, strikeBy, unplugBy, step}
+use Rattle.ledger.specs.Ledgers.{Line, mergeAll, room, Socket, empty, held, shelved, Ledger, socketAt, Parts, parts, blocker, unplug, Answer, granted, refused, bySocket, no, strikeBy, unplugBy, step}
 use Rattle.ledger.specs.Invariants.{Line-at, Made, occupied, Kept}
-use Rattle.ledger.specs.Promises.{Can-be-done, Each-can-be-done, Touches, None-touches, Unplugs}
+use Rattle.ledger.specs.Promises.{Can-be-done, Each-can-be-done, Touches, None-touches, Earliest, Unplugs}
 use Rattle.ledger.proofs.Sockets.{Found, room-front}
 use Rattle.ledger.proofs.Keeping.{mine}
 use Rattle.ledger.proofs.Striking.{all-join, not-blocked}
@@ -65,6 +67,45 @@ unfolding blocker
 first-blocks x [] y zs n h = cond-true _ _ _ (true-touches x y h)
 first-blocks x (w ∷ ys) y zs n h = cond-false _ _ _ (not-touched x w (n w (inl refl))) ∙ first-blocks x ys y zs (λ z i. n z (inr i)) h
 
+-- who blocks is the earliest that touches
+some-blocks : (x : Line) (ls : List Line) (j : ℕ) → blocker (x .entries) ls ≡ Some j → Earliest ls x j
+unfolding blocker
+some-blocks x [] j h = absurd (some-none j (sym h))
+some-blocks x (l ∷ ls) j h = go (touches (x .entries) (l .entries)) refl (some-blocks x ls j) h
+  where
+    go : (b : Bool) → touches (x .entries) (l .entries) ≡ b → (blocker (x .entries) ls ≡ Some j → Earliest ls x j) → cond b (Some (l .socket)) (blocker (x .entries) ls) ≡ Some j → Earliest (l ∷ ls) x j
+    go true e ih h = record { before = []; line = l; later = ls; lines = refl; none = λ y i. absurd i; touches = touches-true x l e; socket = some-one h }
+    go false e ih h =
+        let r = ih h in
+        record {
+          before = l ∷ r .before;
+          line = r .line;
+          later = r .later;
+          lines = ap (λ z. l ∷ z) (r .lines);
+          none = λ y i t. first y (r .before) (r .none) i t;
+          touches = r .touches;
+          socket = r .socket;
+        }
+      where
+        first : (y : Line) (ys : List Line) → None-touches ys x → In y (l ∷ ys) → Touches y x → ⊥
+        first y ys n (inl p) t = true≢false (sym (true-touches x l (subst (λ z. Touches z x) p t)) ∙ e)
+        first y ys n (inr i) t = n y i t
+
+refused-granted : {c p : ℕ} → refused c p ≡ granted → ⊥
+refused-granted e = let z : _≡_ {A = ℕ} 0 1 = cc in omega arith
+
+refused-one : {a b c d : ℕ} → refused a b ≡ refused c d → (c ≡ a) × (b ≡ d)
+refused-one e = (cc, cc)
+
+-- what an answer says of the blockers
+strike-granted : (g : Ledger) (k : ℕ) (p : Parts) (o : Option ℕ) → strikeBy g k p o .0 ≡ granted → o ≡ None
+strike-granted g k p None h = refl
+strike-granted g k p (Some j) h = absurd (refused-granted h)
+
+strike-refused : (g : Ledger) (k : ℕ) (p : Parts) (o : Option ℕ) (c j : ℕ) → strikeBy g k p o .0 ≡ refused c j → (c ≡ 40) × (o ≡ Some j)
+strike-refused g k p None c j h = absurd (refused-granted (sym h))
+strike-refused g k p (Some i) c j h = let x = refused-one h in (x .0, ap Some (x .1))
+
 pub unplugs : (g : Ledger) → Kept g → (n k : ℕ) → 4096 ≤ n → socketAt g k ≡ held → Unplugs g n k
 unfolding step
 unplugs g kept n k long s =
@@ -80,6 +121,10 @@ unplugs g kept n k long s =
       lines = f .lines;
       socket = f .socket;
       free = λ h. ap (λ z. z .0) (e ∙ ap (strikeBy g k (f .before, f .mine, f .later)) (free-none (f .mine) (f .later) h));
+      free-only = λ h. touches-none (f .mine) (f .later) (strike-granted g k (f .before, f .mine, f .later) (blocker (f .mine .entries) (f .later)) (sym (ap (λ z. z .0) e) ∙ h));
+      blocked-only = λ c j h.
+          let x = strike-refused g k (f .before, f .mine, f .later) (blocker (f .mine .entries) (f .later)) c j (sym (ap (λ z. z .0) e) ∙ h) in
+          (x .0, some-blocks (f .mine) (f .later) j (x .1));
       blocked = λ ys y zs q h w. ap (λ z. z .0) (e ∙ ap (λ z. strikeBy g k (f .before, f .mine, f .later) (blocker (f .mine .entries) z)) q ∙ ap (strikeBy g k (f .before, f .mine, f .later)) (first-blocks (f .mine) ys y zs h w));
     }
 

@@ -175,39 +175,39 @@ step g (takeBack k) =
 
 -- ---- a stack is closed over a store's tree, or open with a ledger
 
-pub data Book : Type 0 where
-  shut : Tree → Book
-  opened : Ledger → Book
+pub data State : Type 0 where
+  closed : Tree → State
+  opened : Ledger → State
 
 -- 16 and 17, both at place 0
-abbrev pub openBy : Tree → Bool → Option (List ℕ) → Answer × Book
-openBy t false w = (refused 16 0, shut t)
-openBy t true None = (refused 17 0, shut t)
+abbrev pub openBy : Tree → Bool → Option (List ℕ) → Answer × State
+openBy t false w = (refused 16 0, closed t)
+openBy t true None = (refused 17 0, closed t)
 openBy t true (Some v) = (granted, opened (fresh t))
 
-abbrev pub stepped : Answer × Ledger → Answer × Book
+abbrev pub stepped : Answer × Ledger → Answer × State
 stepped a = (a .0, opened (a .1))
 
-abbrev pub shutCall : Tree → Call → Answer × Book
-shutCall t opening = openBy t (phandleRule t) (look t (nodeAt symbolsPath))
-shutCall t (plug n k es) = (refused 56 0, shut t)
-shutCall t (unplug n k) = (refused 56 0, shut t)
-shutCall t (handOver k) = (refused 56 0, shut t)
-shutCall t (takeBack k) = (refused 56 0, shut t)
+abbrev pub closedCall : Tree → Call → Answer × State
+closedCall t opening = openBy t (phandleRule t) (look t (nodeAt symbolsPath))
+closedCall t (plug n k es) = (refused 56 0, closed t)
+closedCall t (unplug n k) = (refused 56 0, closed t)
+closedCall t (handOver k) = (refused 56 0, closed t)
+closedCall t (takeBack k) = (refused 56 0, closed t)
 
-abbrev pub call : Book → Call → Answer × Book
-call (shut t) c = shutCall t c
+abbrev pub call : State → Call → Answer × State
+call (closed t) c = closedCall t c
 call (opened g) c = stepped (step g c)
 
--- the book after a history of calls, and the answers to them
-unfoldable pub history : Book → List Call → Book
+-- the state after a history of calls, and the answers to them
+unfoldable pub history : State → List Call → State
 history b [] = b
 history b (c ∷ cs) = history (call b c .1) cs
 
-unfoldable pub answers : Book → List Call → List Answer
+unfoldable pub answers : State → List Call → List Answer
 answers b [] = []
 answers b (c ∷ cs) = call b c .0 ∷ answers (call b c .1) cs
 
-abbrev pub bookTree : Book → Tree
-bookTree (shut t) = t
-bookTree (opened g) = ledgerTree g
+abbrev pub stateTree : State → Tree
+stateTree (closed t) = t
+stateTree (opened g) = ledgerTree g
