@@ -14,4 +14,5 @@ pub mod Planning
 pub mod References
 pub mod Rules
 pub mod Shapes
+pub mod Stepping
 pub mod Touching
