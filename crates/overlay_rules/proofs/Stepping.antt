@@ -62,6 +62,9 @@ unfolding run
 run-touch t e (p, None) = refl
 run-touch t e (p, Some n) = refl
 
+pub run-touches : (t : Tree) (es : List Entry) → run t (forEach (λ e. touch e (e .place)) es) ≡ Ok (touchesIn t es)
+run-touches t es = run-all t (λ e. touch e (e .place)) (λ e. touchAt t e (e .place)) (λ e. run-touch t e (e .place)) es
+
 run-again : (t : Tree) (e : Entry) → run t (again e) ≡ Ok (againIn t e)
 unfolding run again
 run-again t e = go (once (e .place))
@@ -114,7 +117,7 @@ run-plan t v d =
     ∙ run-then t (forEach labelled (v .labels)) q2 ∙ then-same (run t (forEach labelled (v .labels))) _ _ (λ env.
     run-then t (forEach (λ f. located env f (f .target)) (v .fragments)) (q3 env) ∙ then-same (run t (forEach (λ f. located env f (f .target)) (v .fragments))) _ _ (λ ls.
     run-first t (stopAt 34 (raisedPast d (overlayHandles v))) (q4 env ls) (refusedIf 34 (raisedPast d (overlayHandles v))) (run-stop t 34 (raisedPast d (overlayHandles v))) ∙ then-same (refusedIf 34 (raisedPast d (overlayHandles v))) _ _ (λ u.
-    run-first t (forEach (λ e. touch e (e .place)) (images env d ls v)) (q5 env ls) (Ok (touchesIn t (images env d ls v))) (run-all t (λ e. touch e (e .place)) (λ e. touchAt t e (e .place)) (λ e. run-touch t e (e .place)) (images env d ls v))
+    run-first t (forEach (λ e. touch e (e .place)) (images env d ls v)) (q5 env ls) (Ok (touchesIn t (images env d ls v))) (run-touches t (images env d ls v))
     ∙ run-then t (allowed (putsIn t (images env d ls v))) (q6 env ls (touchesIn t (images env d ls v))) ∙ then-same (run t (allowed (putsIn t (images env d ls v)))) _ _ (λ c. run-done t (planned env d ls v (touchesIn t (images env d ls v)))))))
 
 pub in-steps : In-steps
