@@ -1,37 +1,36 @@
 -- Every call keeps what is kept of a ledger. Assumes nothing.
 use mathlib.Core.Path.{_≡_, refl, sym, ap, subst, _∙_}
-use mathlib.Core.Bool.{Bool, true, false, cond, _&&_, true≢false}
+use mathlib.Core.Bool.{Bool, true, false, cond, _&&_}
 use mathlib.Core.List.{List, [], _∷_, _++_}
-use mathlib.Core.Logic.{_⊎_, inl, inr, ⊎-elim}
-use Prim.Native.Nat.{ℕ, _+_, _≤_, _<_}
+use mathlib.Core.Logic.{⊎-elim}
+use Prim.Native.Nat.{ℕ, _+_, _<_}
 use native.Mathlib.Omega.{arith}
-use lib.Dec.{eqb, ltb, leb}
-use lib.ListN.{length, getD, set, replicate}
+use lib.Dec.{ltb, leb}
+use lib.ListN.{length, getD, replicate}
 use Rattle.std.specs.declared.option.Option.{Option}
 use Rattle.std.specs.declared.option.Option.the-variants.{None, Some}
 use Rattle.std.specs.declared.result.Result.{Result}
 use Rattle.std.specs.declared.result.Result.the-variants.{Ok, Err}
 use Rattle.std.specs.Finite.{All}
 use Rattle.std.proofs.shelf.Lists.{length-set, length-replicate, getD-replicate, getD-past}
-use Rattle.std.proofs.shelf.Tests.{ltb-false, cases-lt, cases-eq, and-parts, leb-true, le-leb}
+use Rattle.std.proofs.shelf.Tests.{ltb-false, cases-lt, and-parts, leb-true, le-leb}
 use Rattle.tree.specs.Entries.{Entry}
 use Rattle.tree.specs.Phandles.{phandleRule, largestPhandle}
 use Rattle.tree.specs.Places.{Bytes, nodeAt}
 use Rattle.tree.specs.Trees.{Tree, look, Sound, nodes, properties, weight}
-use Rattle.overlay_rules.specs.Checks.{Refusal, check}
-use Rattle.overlay_rules.specs.Laws.{Rising, Unique, Fewer}
-use Rattle.overlay_rules.specs.Overlays.{overlayOf, symbolsPath, phandleAt}
-use Rattle.overlay_rules.specs.Plans.{Plan, plan, apply}
+use Rattle.overlay_rules.specs.Checks.{Refusal}
+use Rattle.overlay_rules.specs.Laws.{Rising, Unique}
+use Rattle.overlay_rules.specs.Overlays.{overlayOf, symbolsPath}
+use Rattle.overlay_rules.specs.Plans.{Plan, apply}
 use Rattle.overlay_rules.specs.Queries.{run}
-use Rattle.overlay_rules.specs.Records.{notes}
 use Rattle.overlay_rules.proofs.Checking.{passed}
 use Rattle.overlay_rules.proofs.Looks.{rule-unique, at-most-largest}
 use Rattle.overlay_rules.proofs.Planning.{plan-is}
 use Rattle.overlay_rules.proofs.Rules.{keeps-unique}
-use Rattle.ledger.specs.Ledgers.{Line, planAt, merge, mergeAll, sum, room, Socket, empty, held, shelved, Ledger, ledgerTree, fresh, socketAt, Parts, parts, blocker, Call, opening, plug, unplug, handOver, takeBack, Answer, plugged, receipt, granted, refused, bySocket, no, turned, line, plugBy, plugIn, strikeBy, unplugBy, step, State, closed, opened, openBy, closedCall, call, history}
+use Rattle.ledger.specs.Ledgers.{planAt, mergeAll, sum, room, Socket, empty, held, shelved, Ledger, ledgerTree, fresh, socketAt, Parts, parts, blocker, Call, opening, plug, unplug, handOver, takeBack, plugged, receipt, granted, bySocket, no, turned, line, plugBy, plugIn, strikeBy, unplugBy, step, State, closed, opened, openBy, closedCall, call, history}
 use Rattle.ledger.specs.Invariants.{Fit, Fit-call, Line-at, Made, count, occupied, Kept}
-use Rattle.ledger.proofs.Sockets.{count-join, count-other, count-own, count-none, Found, found, tied-again, Roomy, is-room, room-struck}
-use Rattle.ledger.proofs.Striking.{merge-is, rises-all, struck, Struck, made-push, all-push}
+use Rattle.ledger.proofs.Sockets.{count-join, count-other, count-own, count-none, Found, found, tied-again, is-room, room-struck}
+use Rattle.ledger.proofs.Striking.{merge-is, rises-all, struck, made-push, all-push}
 
 -- ---- opening
 

@@ -1,28 +1,25 @@
 -- What the log says of a socket's line. Assumes nothing.
 use mathlib.Core.Path.{_≡_, refl, sym, ap, subst, _∙_}
 use mathlib.Core.Bool.{Bool, true, false, cond, _&&_, _||_}
-use mathlib.Core.List.{List, [], _∷_, _++_, map}
+use mathlib.Core.List.{List, [], _∷_, _++_}
 use mathlib.Core.Logic.{_⊎_, inl, inr, ⊎-elim}
 use Prim.Native.Nat.{ℕ, _+_, zero, suc}
 use native.Mathlib.Omega.{arith}
 use lib.Dec.{eqb}
 use lib.ListN.{length, drop}
-use Rattle.std.specs.declared.option.Option.{Option}
 use Rattle.std.specs.declared.option.Option.the-variants.{None, Some}
-use Rattle.std.proofs.shelf.Lists.{append-assoc, append-nil, length-append, length-map, map-append}
+use Rattle.std.proofs.shelf.Lists.{append-assoc, append-nil, length-append, length-map}
 use Rattle.std.proofs.shelf.Tests.{cond-true, cond-false, eq-eqb, ne-eqb}
-use Rattle.tree.specs.Entries.{some, samePlace}
+use Rattle.tree.specs.Entries.{samePlace}
 use Rattle.tree.specs.Places.{Place}
 use Rattle.tree.specs.Trees.{Tree, Sound}
 use Rattle.overlay_rules.specs.Records.{Note, putBack, restore, noteBytes, savedBytes, written, wrote, touches}
-use Rattle.overlay_rules.specs.Laws.{In}
-use Rattle.ledger.specs.Ledgers.{Line, sum, Ledger, ledgerTree, socketAt, Parts, blocker}
-use Rattle.ledger.specs.Invariants.{count, occupied, Kept}
+use Rattle.ledger.specs.Ledgers.{Line, sum, Ledger, ledgerTree, blocker}
+use Rattle.ledger.specs.Invariants.{count, Kept}
 use Rattle.ledger.specs.Logs.{Logged, tagged, log, undone, others, wroteBy, scan, Log-of, Log-laws}
 use Rattle.ledger.proofs.Keeping.{mine}
 use Rattle.ledger.proofs.Restoring.{way}
-use Rattle.ledger.proofs.Sockets.{Found, count-other, sum-join}
-use Rattle.ledger.proofs.Sounding.{tree-sound}
+use Rattle.ledger.proofs.Sockets.{Found, sum-join}
 use Rattle.ledger.proofs.Unplugging.{touches-none}
 
 pub log-join : (ks ls : List Line) → log (ks ++ ls) ≡ log ks ++ log ls

@@ -1,19 +1,18 @@
 -- Lines of a socket: how many, and which. Assumes nothing.
-use mathlib.Core.Path.{_≡_, refl, sym, ap, subst, _∙_}
+use mathlib.Core.Path.{_≡_, refl, sym, ap, _∙_}
 use mathlib.Core.Bool.{Bool, true, false, cond, _&&_}
 use mathlib.Core.List.{List, [], _∷_, _++_}
-use mathlib.Core.Logic.{_⊎_, inl, inr, ⊎-elim}
+use mathlib.Core.Logic.{⊎-elim}
 use Prim.Native.Nat.{ℕ, _+_, _≤_, _<_}
 use native.Mathlib.Omega.{arith}
 use lib.Dec.{eqb, leb}
 use lib.ListN.{length, getD, set}
-use Rattle.std.specs.declared.option.Option.{Option}
-use Rattle.std.specs.declared.option.Option.the-variants.{None, Some}
+use Rattle.std.specs.declared.option.Option.the-variants.{Some}
 use Rattle.std.proofs.shelf.Lists.{getD-set-same, getD-set-other}
-use Rattle.std.proofs.shelf.Tests.{eq-eqb, ne-eqb, eqb-true, eqb-false, cond-true, cond-false, cases-eq, and-parts, and-from, leb-true, le-leb}
+use Rattle.std.proofs.shelf.Tests.{eq-eqb, ne-eqb, eqb-true, cond-true, cond-false, cases-eq, and-parts, and-from, leb-true, le-leb}
 use Rattle.tree.specs.Trees.{Tree, nodes, properties, weight}
 use Rattle.overlay_rules.specs.Records.{savedBytes}
-use Rattle.ledger.specs.Ledgers.{Line, sum, room, Socket, empty, Parts, after, parts}
+use Rattle.ledger.specs.Ledgers.{Line, sum, room, Socket, empty, after, parts}
 use Rattle.ledger.specs.Invariants.{count, occupied}
 
 pub count-join : (k : ℕ) (ks ls : List Line) → count k (ks ++ ls) ≡ count k ks + count k ls

@@ -2,29 +2,24 @@
 use mathlib.Core.Path.{_≡_, refl, sym, ap, subst, _∙_}
 use mathlib.Core.Bool.{true, false}
 use mathlib.Core.List.{List, [], _∷_, _++_}
-use mathlib.Core.Logic.{_⊎_, inl, inr, ⊎-elim}
-use Prim.Native.Nat.{ℕ}
-use Rattle.std.specs.declared.option.Option.the-variants.{None, Some}
-use Rattle.std.specs.declared.result.Result.the-variants.{Ok}
+use Rattle.std.specs.declared.option.Option.the-variants.{Some}
 use Rattle.std.specs.Finite.{All}
-use Rattle.tree.specs.Entries.{Entry}
-use Rattle.tree.specs.Numbers.{be32}
 use Rattle.tree.specs.Phandles.{phandleRule}
-use Rattle.tree.specs.Places.{Bytes, Place}
-use Rattle.tree.specs.Trees.{Tree, look, Sound}
-use Rattle.overlay_rules.specs.Laws.{Rising, In, Valid, Unique, Fewer, Points}
+use Rattle.tree.specs.Places.{Place}
+use Rattle.tree.specs.Trees.{Tree, look}
+use Rattle.overlay_rules.specs.Laws.{Rising, In, Valid, Fewer}
 use Rattle.overlay_rules.specs.Overlays.{phandleAt, overlayOf}
 use Rattle.overlay_rules.specs.Plans.{Plan, Reference, plan, apply}
 use Rattle.overlay_rules.specs.Records.{wrote}
 use Rattle.overlay_rules.proofs.Asking.{ok-one}
 use Rattle.overlay_rules.proofs.Checking.{passed}
 use Rattle.overlay_rules.proofs.Journals.{look-out}
-use Rattle.overlay_rules.proofs.Looks.{rule-valid, rule-unique, rule-from}
+use Rattle.overlay_rules.proofs.Looks.{rule-valid, rule-from}
 use Rattle.overlay_rules.proofs.References.{points}
 use Rattle.overlay_rules.proofs.Rules.{keeps-valid}
 use Rattle.overlay_rules.proofs.Touching.{plan-fewer, wrote-none}
-use Rattle.ledger.specs.Ledgers.{Line, merge, mergeAll, Ledger, ledgerTree, Call, State, closed, opened, history}
-use Rattle.ledger.specs.Invariants.{Fit-call, Line-at, Made, Kept}
+use Rattle.ledger.specs.Ledgers.{Line, merge, mergeAll, Ledger, ledgerTree, State, closed, opened, history}
+use Rattle.ledger.specs.Invariants.{Line-at, Made, Kept}
 use Rattle.ledger.specs.Promises.{Stands, Refers, Promise, Promised, Every-history, Invariant}
 use Rattle.ledger.proofs.Keeping.{fresh-kept, step-kept, State-of, history-kept}
 use Rattle.ledger.proofs.Sounding.{tree-sound}

@@ -1,11 +1,10 @@
 -- An unplug of a held socket is granted exactly when no later line touches what its line wrote. Assumes nothing.
 use mathlib.Core.Path.{_≡_, refl, sym, ap, subst, _∙_}
-use mathlib.Core.Bool.{Bool, true, false, cond, _&&_, _||_, true≢false}
+use mathlib.Core.Bool.{Bool, true, false, cond, true≢false}
 use mathlib.Core.List.{List, [], _∷_, _++_}
-use mathlib.Core.Logic.{_⊎_, inl, inr, ⊎-elim}
+use mathlib.Core.Logic.{inl, inr}
 use Prim.Native.Nat.{ℕ, _≤_}
 use native.Mathlib.Omega.{arith}
-use lib.Dec.{ltb}
 use Rattle.std.specs.declared.option.Option.{Option}
 use Rattle.std.specs.declared.option.Option.the-variants.{None, Some}
 use Rattle.std.proofs.shelf.Tests.{cond-true, cond-false, le-ltb}
@@ -16,14 +15,14 @@ use Rattle.tree.specs.Trees.{Tree}
 use Rattle.tree.proofs.Listed.{same-self, same-only}
 use Rattle.overlay_rules.specs.Laws.{In}
 use Rattle.overlay_rules.specs.Plans.{Plan}
-use Rattle.overlay_rules.specs.Records.{Note, written, wrote, touches}
-use Rattle.overlay_rules.proofs.Lists.{some-true, some-in, none-some}
-use Rattle.ledger.specs.Ledgers.{Line, mergeAll, room, Socket, empty, held, shelved, Ledger, socketAt, Parts, parts, blocker, unplug, Answer, granted, refused, bySocket, no, strikeBy, unplugBy, step}
+use Rattle.overlay_rules.specs.Records.{written, wrote, touches}
+use Rattle.overlay_rules.proofs.Lists.{some-true, some-in}
+use Rattle.ledger.specs.Ledgers.{Line, mergeAll, room, held, Ledger, socketAt, Parts, parts, blocker, unplug, granted, refused, bySocket, no, strikeBy, unplugBy, step}
 use Rattle.ledger.specs.Invariants.{Line-at, Made, occupied, Kept}
 use Rattle.ledger.specs.Promises.{Can-be-done, Each-can-be-done, Touches, None-touches, Earliest, Unplugs}
-use Rattle.ledger.proofs.Sockets.{Found, room-front}
+use Rattle.ledger.proofs.Sockets.{room-front}
 use Rattle.ledger.proofs.Keeping.{mine}
-use Rattle.ledger.proofs.Striking.{all-join, not-blocked}
+use Rattle.ledger.proofs.Striking.{not-blocked}
 
 written-at : (b : Bool) (k j : Place) → cond b (samePlace k j) false ≡ true → (b ≡ true) × (k ≡ j)
 written-at true k j h = (refl, same-only k j h)

@@ -1,15 +1,12 @@
 -- Worked examples of whole histories, on the tree with `/soc/bus`, phandle 5, which the label `bus` names. Assumes nothing.
 use mathlib.Core.Path.{_≡_}
-use mathlib.Core.Bool.{Bool, true}
 use mathlib.Core.List.{List, [], _∷_, _++_}
 use Prim.Native.Nat.{ℕ}
 use lib.Chars.{codes}
 use lib.ListN.{replicate}
-use Rattle.std.specs.declared.option.Option.{Option}
 use Rattle.std.specs.declared.option.Option.the-variants.{None, Some}
-use Rattle.tree.specs.Entries.{Entry, wellListed}
+use Rattle.tree.specs.Entries.{Entry}
 use Rattle.tree.specs.Numbers.{bytes32}
-use Rattle.tree.specs.Phandles.{phandleRule}
 use Rattle.tree.specs.Places.{Bytes, propertyAt}
 use Rattle.std.specs.Finite.{All}
 use Rattle.tree.specs.Trees.{Tree, look, weight, Sound}

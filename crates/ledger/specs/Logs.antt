@@ -2,7 +2,7 @@
 use mathlib.Core.Path.{_≡_}
 use mathlib.Core.Bool.{Bool, true, false, cond, _&&_}
 use mathlib.Core.List.{List, [], _∷_, _++_, map}
-use Prim.Native.Nat.{ℕ, _≤_}
+use Prim.Native.Nat.{ℕ}
 use lib.Dec.{eqb}
 use lib.ListN.{length, drop}
 use Rattle.std.specs.declared.option.Option.{Option}
@@ -11,7 +11,7 @@ use Rattle.tree.specs.Entries.{some, samePlace}
 use Rattle.tree.specs.Places.{Place}
 use Rattle.tree.specs.Trees.{Tree, Sound}
 use Rattle.overlay_rules.specs.Records.{Note, putBack, restore, noteBytes, savedBytes, written}
-use Rattle.ledger.specs.Ledgers.{Line, sum, Socket, empty, Ledger, ledgerTree, socketAt, Parts, parts, blocker}
+use Rattle.ledger.specs.Ledgers.{Line, sum, Ledger, ledgerTree, socketAt, Parts, parts, blocker}
 use Rattle.ledger.specs.Invariants.{occupied, Kept}
 
 abbrev pub Logged : Type 0

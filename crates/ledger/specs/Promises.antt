@@ -1,11 +1,10 @@
 -- The promise over every history, in words of the subject. Assumes nothing.
 use mathlib.Core.Path.{_≡_}
-use mathlib.Core.Bool.{Bool, true, false}
+use mathlib.Core.Bool.{true, false}
 use mathlib.Core.Logic.{_⊎_}
 use mathlib.Core.List.{List, [], _∷_, _++_}
-use Prim.Native.Nat.{ℕ, _+_, _≤_, _<_}
-use lib.ListN.{length, drop}
-use Rattle.std.specs.declared.option.Option.{Option}
+use Prim.Native.Nat.{ℕ, _≤_, _<_}
+use lib.ListN.{drop}
 use Rattle.std.specs.declared.option.Option.the-variants.{None, Some}
 use Rattle.std.specs.declared.result.Result.the-variants.{Ok}
 use Rattle.std.specs.Finite.{All}
@@ -19,7 +18,7 @@ use Rattle.overlay_rules.specs.Overlays.{phandleAt, symbolsPath}
 use Rattle.overlay_rules.specs.Plans.{Plan, Reference, apply}
 use Rattle.overlay_rules.specs.Queries.{run}
 use Rattle.overlay_rules.specs.Records.{Note, created, notes, written, wrote, restore}
-use Rattle.ledger.specs.Ledgers.{Line, line, planAt, merge, mergeAll, room, held, Ledger, ledgerTree, fresh, socketAt, Call, plug, unplug, Answer, plugged, granted, refused, step, State, closed, opened, call, history}
+use Rattle.ledger.specs.Ledgers.{Line, line, planAt, mergeAll, room, held, Ledger, ledgerTree, fresh, socketAt, Call, plug, unplug, plugged, granted, refused, step, State, closed, opened, history}
 use Rattle.ledger.specs.Invariants.{Fit, Fit-call, Kept}
 
 -- ---- the tree is explained by the lines

@@ -1,53 +1,50 @@
 -- A plan's writes grow the tree: each hangs on what is there by then, and they count no more than the share. Assumes nothing.
 use mathlib.Core.Path.{_≡_, refl, sym, ap, subst, _∙_}
-use mathlib.Core.Bool.{Bool, true, false, cond, not, _&&_, _||_, true≢false}
+use mathlib.Core.Bool.{Bool, true, false, cond, not, true≢false}
 use mathlib.Core.List.{List, [], _∷_, _++_, map}
 use mathlib.Core.Logic.{_⊎_, inl, inr, ⊎-elim}
 use Prim.Native.Nat.{ℕ, _+_, _≤_, _<_}
 use native.Mathlib.Omega.{arith}
 use lib.Chars.{codes}
-use lib.Dec.{eqb, leb}
+use lib.Dec.{leb}
 use lib.ListN.{length}
 use Rattle.std.specs.declared.option.Option.{Option}
 use Rattle.std.specs.declared.option.Option.the-variants.{None, Some}
-use Rattle.std.specs.declared.result.Result.the-variants.{Ok}
 use Rattle.std.specs.Options.{isSome}
 use Rattle.std.specs.Finite.{All}
 use Rattle.std.specs.shelf.Text.{sameBytes}
 use Rattle.std.proofs.shelf.Equals.{sameBytes-decides}
-use Rattle.std.proofs.shelf.Lists.{append-nil, append-assoc, length-append, nil-from-length}
+use Rattle.std.proofs.shelf.Lists.{append-assoc, length-append, nil-from-length}
 use Rattle.std.proofs.shelf.Tests.{and-parts, and-from, eqb-true, leb-true, le-leb, cond-true, cond-false, ne-eqb, not-true}
-use Rattle.names.specs.Names.{nodeName, propertyName}
 use Rattle.names.specs.Paths.{root, pathText, under, parent}
 use Rattle.names.proofs.PathLaws.{parent-of}
 use Rattle.tree.specs.Entries.{Entry, listed, bare, listedFrom, samePlace, some, wellListed}
 use Rattle.tree.specs.Maps.{total}
 use Rattle.tree.specs.Numbers.{be32, bytes32}
 use Rattle.tree.specs.Phandles.{isPhandle}
-use Rattle.tree.specs.Places.{Bytes, Place, nodeAt, propertyAt}
-use Rattle.tree.specs.Trees.{Places, Tree, look, change, shortPlace, namedPlace, upPlace}
+use Rattle.tree.specs.Places.{Bytes, Place, nodeAt}
+use Rattle.tree.specs.Trees.{Tree, look, change, namedPlace, upPlace}
 use Rattle.tree.proofs.Listed.{same-only}
-use Rattle.tree.proofs.Maps.{some-none, some-one}
+use Rattle.tree.proofs.Maps.{some-none}
 use Rattle.overlay_rules.specs.Texts.{given, pick, slashed, behind}
-use Rattle.overlay_rules.specs.Overlays.{symbolsPath, bodyPath, valueAt, isListed, special, isFragmentPath, fragmentOf, fragmentNodes, inBody, bodyEntries, targetOf, Fragment, Item, Symbol, Overlay, overlayOf}
-use Rattle.overlay_rules.specs.Queries.{run, forEach}
-use Rattle.overlay_rules.specs.Plans.{Known, Located, located, imageOf, finalBytes, filled, imageEntry, symbolEntry, images, Touch, there, put, ifThere, touch, putIn, Share, shareOf, belowTop, shared, Plan, planned, plan, apply}
-use Rattle.overlay_rules.specs.Steps.{touchAt, touchesIn, putsIn}
+use Rattle.overlay_rules.specs.Overlays.{symbolsPath, bodyPath, valueAt, isListed, isFragmentPath, fragmentOf, fragmentNodes, inBody, bodyEntries, targetOf, Fragment, Item, Symbol, overlayOf}
+use Rattle.overlay_rules.specs.Plans.{Located, located, imageOf, finalBytes, filled, imageEntry, symbolEntry, images, Touch, there, ifThere, putIn, shareOf, belowTop, shared, Plan, planned, apply}
+use Rattle.overlay_rules.specs.Steps.{touchAt, putsIn}
 use Rattle.overlay_rules.specs.Laws.{Rising, In}
-use Rattle.overlay_rules.proofs.Lists.{all-at, all-from, in-cases, in-left, in-right, in-map, in-map-from, in-pick, in-pick-from, some-true, some-in}
+use Rattle.overlay_rules.proofs.Lists.{all-at, all-from, in-left, in-map, in-map-from, in-pick, in-pick-from, some-true, some-in}
 use Rattle.overlay_rules.proofs.Looks.{look-same, rises-change}
-use Rattle.overlay_rules.proofs.Asking.{ok-one, gave, gave-from, gave-to, run-bind}
+use Rattle.overlay_rules.proofs.Asking.{ok-one, gave, gave-from, gave-to}
 use Rattle.overlay_rules.proofs.Journals.{rises-apply}
-use Rattle.overlay_rules.proofs.Planning.{Allowed, Located-at, located-is, touchAll, Planned}
+use Rattle.overlay_rules.proofs.Planning.{located-is, Planned}
 use Rattle.overlay_rules.proofs.Touching.{writes-is, put-or-there}
-use Rattle.overlay_rules.proofs.Checking.{Passed, itemOf, item-from, Symbol-from, symbol-from}
-use Rattle.overlay_rules.proofs.Cells.{cell-good, Within}
+use Rattle.overlay_rules.proofs.Checking.{Passed, itemOf, item-from, symbol-from}
+use Rattle.overlay_rules.proofs.Cells.{cell-good}
 use Rattle.overlay_rules.proofs.Filling.{length-filled}
-use Rattle.overlay_rules.proofs.Listing.{Good-entry, Next, listed-next, Well, well, all-good, value-at}
+use Rattle.overlay_rules.proofs.Listing.{Good-entry, Next, listed-next, well, all-good}
 use Rattle.overlay_rules.proofs.References.{body-listed, item-value, item-cells}
-use Rattle.overlay_rules.proofs.Pathing.{behind-is, behind-from, last-of, Last, parent-under, path-under, Match, match, slashes, slashes-join, child-slashes}
+use Rattle.overlay_rules.proofs.Pathing.{behind-is, behind-from, last-of, parent-under, path-under, Match, match, slashes, slashes-join, child-slashes}
 use Rattle.overlay_rules.proofs.Stepping.{run-touches}
-use Rattle.overlay_rules.proofs.Shapes.{Shape, Fits-in, Grows, grown, grows-join, node-stays, node-put, shape-put, cost-join}
+use Rattle.overlay_rules.proofs.Shapes.{Shape, Fits-in, Grows, grows-join, node-stays, node-put, cost-join}
 
 -- ---- touches, as a function of the tree
 

@@ -1,19 +1,14 @@
 -- What the listing of a good blob's entries establishes. Assumes nothing.
 use mathlib.Core.Path.{_≡_, refl, sym, ap, subst, _∙_}
-use mathlib.Core.Bool.{Bool, true, false, cond, not, _&&_, _||_, true≢false}
-use mathlib.Core.List.{List, [], _∷_, _++_}
-use mathlib.Core.Logic.{_⊎_, inl, inr, ⊎-elim}
-use Prim.Native.Nat.{ℕ}
-use lib.Dec.{eqb}
-use lib.ListN.{length}
-use Rattle.std.specs.declared.option.Option.{Option}
-use Rattle.std.specs.declared.option.Option.the-variants.{None, Some}
-use Rattle.std.specs.Finite.{All}
+use mathlib.Core.Bool.{true, false, cond}
+use mathlib.Core.List.{List, [], _∷_}
+use mathlib.Core.Logic.{inl, inr}
+use Rattle.std.specs.declared.option.Option.the-variants.{Some}
 use Rattle.std.proofs.shelf.Lists.{nil-from-length}
-use Rattle.std.proofs.shelf.Tests.{and-parts, and-from, not-true, eqb-true, cond-true, cond-false}
+use Rattle.std.proofs.shelf.Tests.{and-parts, eqb-true, cond-true, cond-false}
 use Rattle.names.specs.Paths.{root, pathText}
 use Rattle.tree.specs.Entries.{Entry, bare, listedFrom, listedNext, samePlace, some, wellListed}
-use Rattle.tree.specs.Places.{Bytes, Place, nodeAt}
+use Rattle.tree.specs.Places.{Place, nodeAt}
 use Rattle.tree.specs.Trees.{namedPlace, shortPlace, upPlace}
 use Rattle.tree.proofs.Listed.{same-self, same-only, listed-next as next-one}
 use Rattle.overlay_rules.specs.Overlays.{valueAt}

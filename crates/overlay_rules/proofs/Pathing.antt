@@ -1,9 +1,9 @@
 -- Paths as bytes: their last name, what stands behind a path, and images. Assumes nothing.
 use mathlib.Core.Path.{_≡_, refl, sym, ap, subst, _∙_}
-use mathlib.Core.Bool.{Bool, true, false, cond, not, _&&_, _||_, true≢false}
+use mathlib.Core.Bool.{Bool, true, false, cond, _&&_, true≢false}
 use mathlib.Core.List.{List, [], _∷_, _++_}
 use mathlib.Core.Logic.{_⊎_, inl, inr, ⊎-elim}
-use Prim.Native.Nat.{ℕ, _+_, _-_, _<_, _≤_}
+use Prim.Native.Nat.{ℕ, _+_, _<_}
 use native.Mathlib.Omega.{arith}
 use lib.Dec.{eqb}
 use lib.ListN.{length, take, drop}
@@ -11,8 +11,8 @@ use Rattle.std.specs.declared.option.Option.{Option}
 use Rattle.std.specs.declared.option.Option.the-variants.{None, Some}
 use Rattle.std.specs.shelf.Text.{sameBytes}
 use Rattle.std.proofs.shelf.Equals.{sameBytes-decides}
-use Rattle.std.proofs.shelf.Lists.{append-nil, append-assoc, append-cancel-right, length-append, take-append-drop, take-at, drop-at, nil-from-length}
-use Rattle.std.proofs.shelf.Tests.{and-parts, and-from, and-cases, or-cases, or-from, or-left, or-right, eqb-true, eq-eqb, eqb-false, ne-eqb, cond-true, cond-false, not-true, not-from-false, cases-bool}
+use Rattle.std.proofs.shelf.Lists.{append-nil, append-assoc, length-append, take-append-drop, take-at, drop-at, nil-from-length}
+use Rattle.std.proofs.shelf.Tests.{and-parts, and-from, or-cases, or-from, or-right, eqb-true, eqb-false, ne-eqb, cond-true, cond-false, not-true, not-from-false}
 use Rattle.names.specs.Names.{each, nodeName}
 use Rattle.names.specs.Paths.{root, parts, pathText, stem, under, plain, parent}
 use Rattle.names.proofs.PathLaws.{parent-of, parts-join, under-some}

@@ -1,14 +1,12 @@
 -- What a plan reads and writes, what it asks, and its record. Assumes nothing.
 use mathlib.Core.Path.{_≡_, refl, sym, ap, subst, _∙_}
-use mathlib.Core.Bool.{Bool, true, false, cond, _||_, true≢false}
+use mathlib.Core.Bool.{Bool, true, false, cond, true≢false}
 use mathlib.Core.List.{List, [], _∷_, _++_, map}
 use mathlib.Core.Logic.{_⊎_, inl, inr, ⊎-elim}
 use Prim.Native.Nat.{ℕ}
-use Rattle.std.specs.declared.option.Option.{Option}
 use Rattle.std.specs.declared.option.Option.the-variants.{None, Some}
-use Rattle.std.specs.declared.result.Result.the-variants.{Ok, Err}
+use Rattle.std.specs.declared.result.Result.the-variants.{Ok}
 use Rattle.std.specs.Finite.{All}
-use Rattle.std.proofs.shelf.Tests.{or-parts}
 use Rattle.tree.specs.Entries.{Entry, samePlace, some}
 use Rattle.tree.specs.Places.{Bytes, Place, nodeAt}
 use Rattle.tree.specs.Trees.{Tree, look, change}
@@ -16,15 +14,15 @@ use Rattle.tree.proofs.Listed.{same-only}
 use Rattle.tree.proofs.Maps.{some-none, some-one}
 use Rattle.overlay_rules.specs.Texts.{pick, joined}
 use Rattle.overlay_rules.specs.Overlays.{symbolsPath, phandleAt, Overlay}
-use Rattle.overlay_rules.specs.Queries.{Query, done, ask, run, asked, forEach}
-use Rattle.overlay_rules.specs.Plans.{Known, labelled, Located, located, images, Touch, there, put, touch, putIn, thereIn, once, Plan, hasLabels, readSymbols, knownReads, readsOf, planned, plan, allowed, apply}
-use Rattle.overlay_rules.specs.Records.{Mark, wasRead, created, earlier, Note, distinct, markOf, readNote, writeNote, notes, putBack, restore, written, wrote, touches}
-use Rattle.overlay_rules.specs.Laws.{Rising, In, Free, Off, Fewer, Unique, Same-at, Writes-at, Asks, Asks-what-it-reads, Decided-by-reads}
-use Rattle.overlay_rules.proofs.Lists.{all-at, all-from, all-left, all-right, in-cases, in-left, in-right, in-map, in-map-from, in-joined, in-joined-from, in-pick, in-pick-from, some-false, some-true, some-in, none-some}
-use Rattle.overlay_rules.proofs.Looks.{place-not, decide-place}
+use Rattle.overlay_rules.specs.Queries.{done, ask, run, asked, forEach}
+use Rattle.overlay_rules.specs.Plans.{labelled, Located, located, images, Touch, touch, putIn, thereIn, once, Plan, hasLabels, readSymbols, knownReads, readsOf, planned, plan, allowed, apply}
+use Rattle.overlay_rules.specs.Records.{Note, distinct, markOf, readNote, writeNote, notes, putBack, restore, written, wrote}
+use Rattle.overlay_rules.specs.Laws.{Rising, In, Free, Fewer, Writes-at, Asks-what-it-reads, Decided-by-reads}
+use Rattle.overlay_rules.proofs.Lists.{all-at, all-from, in-cases, in-left, in-right, in-map, in-map-from, in-joined, in-joined-from, in-pick, in-pick-from, some-false, some-true}
+use Rattle.overlay_rules.proofs.Looks.{place-not}
 use Rattle.overlay_rules.proofs.Asking.{run-same, gave, gave-from, gave-to, asked-each, each-asked}
 use Rattle.overlay_rules.proofs.Journals.{look-out, back}
-use Rattle.overlay_rules.proofs.Planning.{Labelled, labelled-is, Located-at, located-is, Was, New, touch-is, Allowed, touchAll, Planned, plan-is}
+use Rattle.overlay_rules.proofs.Planning.{labelled-is, located-is, Was, New, touch-is, touchAll, Planned, plan-is}
 
 put-one : {x y : Entry} → Some x ≡ Some y → x ≡ y
 put-one e = cc

@@ -2,7 +2,6 @@
 use mathlib.Core.Path.{_≡_}
 use mathlib.Core.Bool.{true}
 use mathlib.Core.List.{List, [], _∷_, _++_}
-use Prim.Native.Nat.{ℕ}
 use lib.Chars.{codes}
 use lib.ListN.{replicate}
 use Rattle.std.specs.declared.option.Option.the-variants.{None, Some}

@@ -1,22 +1,19 @@
 -- The check of an overlay: the first refusal, with the place of the first token at fault. Assumes nothing.
-use mathlib.Core.Path.{_≡_}
-use mathlib.Core.Bool.{Bool, true, false, cond, not, _&&_, _||_}
-use mathlib.Core.List.{List, [], _∷_, _++_, map}
+use mathlib.Core.Bool.{Bool, false, cond, not, _&&_, _||_}
+use mathlib.Core.List.{List, [], _∷_, _++_}
 use Prim.Native.Nat.{ℕ, _+_, _%_}
 use lib.Chars.{codes}
 use lib.Dec.{leb, ltb, eqb}
 use lib.ListN.{length}
 use Rattle.std.specs.declared.option.Option.{Option}
 use Rattle.std.specs.declared.option.Option.the-variants.{None, Some}
-use Rattle.std.specs.Options.{isSome}
 use Rattle.std.specs.shelf.Text.{sameBytes}
 use Rattle.names.specs.Names.{each}
-use Rattle.names.specs.Paths.{root, pathText}
-use Rattle.tree.specs.Entries.{Entry, samePlace, some}
+use Rattle.names.specs.Paths.{pathText}
+use Rattle.tree.specs.Entries.{Entry, some}
 use Rattle.tree.specs.Numbers.{be32}
 use Rattle.tree.specs.Phandles.{isPhandle, validHandle}
 use Rattle.tree.specs.Places.{Bytes, Place, nodeAt, propertyAt}
-use Rattle.tree.specs.Trees.{namedPlace, shortPlace, upPlace}
 use Rattle.overlay_rules.specs.Texts.{pick, zeroEnded, split, behind}
 use Rattle.overlay_rules.specs.Overlays.{symbolsPath, fixupsPath, localsPath, targetAt, targetPathAt, valueAt, isListed, fragmentNodes, inBody, bodyEntries, Spot, spotOf, strings, spots, numbers, localsBehind}
 

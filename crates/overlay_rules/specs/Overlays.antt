@@ -1,10 +1,8 @@
 -- An overlay, read off the located entries of its blob. Assumes nothing.
-use mathlib.Core.Path.{_≡_}
-use mathlib.Core.Bool.{Bool, true, false, cond, not, _&&_, _||_}
+use mathlib.Core.Bool.{Bool, cond, not, _&&_, _||_}
 use mathlib.Core.List.{List, [], _∷_, _++_, map}
 use Prim.Native.Nat.{ℕ, _/_, zero, suc}
 use lib.Chars.{codes}
-use lib.Dec.{leb, eqb}
 use lib.ListN.{length, drop}
 use Rattle.std.specs.declared.option.Option.{Option}
 use Rattle.std.specs.declared.option.Option.the-variants.{None, Some}
@@ -13,7 +11,6 @@ use Rattle.std.specs.shelf.Text.{sameBytes}
 use Rattle.names.specs.Paths.{root, parent}
 use Rattle.tree.specs.Entries.{Entry, samePlace, some}
 use Rattle.tree.specs.Numbers.{be32}
-use Rattle.tree.specs.Phandles.{isPhandle}
 use Rattle.tree.specs.Places.{Bytes, Place, nodeAt, propertyAt}
 use Rattle.overlay_rules.specs.Texts.{pick, joined, zeroEnded, split, decimal, behind}
 

@@ -1,7 +1,7 @@
 -- A plan as steps with early refusals, for the code that follows it. Assumes nothing.
 use mathlib.Core.Path.{_≡_}
-use mathlib.Core.Bool.{Bool, true, false, cond}
-use mathlib.Core.List.{List, [], _∷_, map}
+use mathlib.Core.Bool.{cond}
+use mathlib.Core.List.{List, map}
 use Prim.Native.Nat.{ℕ}
 use Rattle.std.specs.declared.option.Option.{Option}
 use Rattle.std.specs.declared.option.Option.the-variants.{None, Some}
@@ -12,7 +12,7 @@ use Rattle.tree.specs.Places.{Place}
 use Rattle.tree.specs.Trees.{Tree, look}
 use Rattle.overlay_rules.specs.Checks.{Refusal}
 use Rattle.overlay_rules.specs.Overlays.{Overlay}
-use Rattle.overlay_rules.specs.Plans.{Known, labelled, Located, located, images, Touch, put, ifThere, putIn, lowest, twice, once, againAt, longAt, Plan, overlayHandles, raisedPast, planned, plan, allowed}
+use Rattle.overlay_rules.specs.Plans.{labelled, located, images, Touch, put, ifThere, putIn, lowest, twice, once, againAt, longAt, overlayHandles, raisedPast, planned, plan, allowed}
 use Rattle.overlay_rules.specs.Queries.{run, forEach}
 use Rattle.overlay_rules.specs.Texts.{pick}
 
