@@ -245,7 +245,7 @@ module _ (t : Tree) (es : List Entry) (d : ℕ) (p : Plan) (w : wellListed es �
           let s = leb-true (length (e .value)) 4096 (and-parts (leb (length (e .place .0)) 255) _ (good e (body-listed es e i .0) .short) .1) in
           omega (arith, l, s)
 
-  bare-value : (e : Entry) → In e es → (k : Place) → e .place ≡ k → k .1 ≡ None → finalBytes (m .env) d (itemOf es e) k ≡ []
+  pub bare-value : (e : Entry) → In e es → (k : Place) → e .place ≡ k → k .1 ≡ None → finalBytes (m .env) d (itemOf es e) k ≡ []
   bare-value e i (q, None) h n = nil-from-length (e .value) (eqb-true _ _ (ap (λ z. bare z (e .value)) (sym h) ∙ good e i .bare))
   bare-value e i (q, Some x) h n = absurd (some-none x n)
 

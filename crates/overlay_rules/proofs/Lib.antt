@@ -8,6 +8,7 @@ pub mod Journals
 pub mod Listing
 pub mod Lists
 pub mod Looks
+pub mod Merging
 pub mod Noting
 pub mod Pathing
 pub mod Planning
