@@ -3,9 +3,9 @@ use mathlib.Core.Path.{_≡_, refl, sym, ap, subst, _∙_}
 use mathlib.Core.Bool.{Bool, true, false, cond, _&&_}
 use mathlib.Core.List.{List, [], _∷_, _++_}
 use mathlib.Core.Logic.{⊎-elim}
-use Prim.Native.Nat.{ℕ, _+_, _<_}
+use Prim.Native.Nat.{ℕ, _+_, _≤_, _<_}
 use native.Mathlib.Omega.{arith}
-use lib.Dec.{ltb, leb}
+use lib.Dec.{ltb, leb, lit≤}
 use lib.ListN.{length, getD, replicate}
 use Rattle.std.specs.declared.option.Option.{Option}
 use Rattle.std.specs.declared.option.Option.the-variants.{None, Some}
@@ -27,7 +27,7 @@ use Rattle.overlay_rules.proofs.Checking.{passed}
 use Rattle.overlay_rules.proofs.Looks.{rule-unique, at-most-largest}
 use Rattle.overlay_rules.proofs.Planning.{plan-is}
 use Rattle.overlay_rules.proofs.Rules.{keeps-unique}
-use Rattle.ledger.specs.Ledgers.{planAt, mergeAll, sum, room, Socket, empty, held, shelved, Ledger, ledgerTree, fresh, socketAt, Parts, parts, blocker, Call, opening, plug, unplug, handOver, takeBack, plugged, receipt, granted, bySocket, no, turned, line, plugBy, plugIn, strikeBy, unplugBy, step, State, closed, opened, openBy, closedCall, call, history}
+use Rattle.ledger.specs.Ledgers.{planAt, mergeAll, sum, room, Socket, empty, held, shelved, Ledger, ledgerTree, fresh, socketAt, Parts, parts, blocker, Call, opening, plug, unplug, handOver, takeBack, plugged, receipt, granted, bySocket, no, turned, line, plugBy, plugIn, strikeBy, unplugBy, step, State, closed, opened, openBy, closedCall, call, history, addBy}
 use Rattle.ledger.specs.Invariants.{Fit, Fit-call, Line-at, Made, count, occupied, Kept}
 use Rattle.ledger.proofs.Sockets.{count-join, count-other, count-own, count-none, Found, found, tied-again, is-room, room-struck}
 use Rattle.ledger.proofs.Striking.{merge-is, rises-all, struck, made-push, all-push}
@@ -40,8 +40,8 @@ open-socket k = ⊎-elim
     (λ h. getD-past (replicate 16 empty) k empty (omega (arith, length-replicate 16 empty)))
     (cases-lt k 16)
 
-le-zero : (a m : ℕ) → leb a m ≡ true → leb (a + 0) m ≡ true
-le-zero a m h = le-leb _ _ (omega (arith, leb-true a m h))
+le-zero : (a m n : ℕ) → leb a m ≡ true → m ≤ n → leb (a + 0) n ≡ true
+le-zero a m n h l = le-leb _ _ (omega (arith, leb-true a m h))
 
 pub fresh-kept : (t : Tree) (v : Bytes) → Sound t → phandleRule t ≡ true → look t (nodeAt symbolsPath) ≡ Some v → Kept (fresh t)
 unfolding Made mergeAll sum
@@ -54,7 +54,7 @@ fresh-kept t v s r h =
       symbols = h ∙ ap Some (s .bare symbolsPath v h);
       made = tt;
       lawful = rule-unique t r;
-      fits = is-room t [] (record { nodes = le-zero _ _ (a .0); properties = le-zero _ _ (b .0); weight = le-zero _ _ (b .1); entries = refl; saved = refl });
+      fits = is-room t [] (record { nodes = le-zero _ 256 _ (a .0) (lit≤ tt); properties = le-zero _ 1024 _ (b .0) (lit≤ tt); weight = le-zero _ 24576 _ (b .1) (lit≤ tt); entries = refl; saved = refl });
       sixteen = length-replicate 16 empty;
       tied = λ k. count-none k ∙ ap occupied (sym (open-socket k));
     }
@@ -145,8 +145,7 @@ module _ (g : Ledger) (kept : Kept g) where
   plug-by-kept k es f small q (Err e) h = kept
   plug-by-kept k es f small q (Ok p) h = go (room (g .base) (g .lines ++ line k es (largestPhandle (ledgerTree g)) (ledgerTree g) p ∷ [])) refl
     where
-      go : (b : Bool) → room (g .base) (g .lines ++ line k es (largestPhandle (ledgerTree g)) (ledgerTree g) p ∷ []) ≡ b
-          → Kept (cond b (plugged k (largestPhandle (ledgerTree g)), turned g k held (g .lines ++ line k es (largestPhandle (ledgerTree g)) (ledgerTree g) p ∷ [])) (no g 38 0) .1)
+      go : (b : Bool) → room (g .base) (g .lines ++ line k es (largestPhandle (ledgerTree g)) (ledgerTree g) p ∷ []) ≡ b → Kept (addBy g k (largestPhandle (ledgerTree g)) (line k es (largestPhandle (ledgerTree g)) (ledgerTree g) p) b .1)
       go true r = plug-kept k es p f small q h r
       go false r = kept
 
@@ -200,11 +199,11 @@ step-base g (plug n k es) = go (ltb n 4096) (ltb 15 k) (socketAt g k)
   where
     by : (o : Result Plan Refusal) → plugBy g k es (largestPhandle (ledgerTree g)) (ledgerTree g) o .1 .base ≡ g .base
     by (Err e) = refl
-    by (Ok p) = room-by (room (g .base) (g .lines ++ line k es (largestPhandle (ledgerTree g)) (ledgerTree g) p ∷ []))
+    by (Ok p) = added (room (g .base) (g .lines ++ line k es (largestPhandle (ledgerTree g)) (ledgerTree g) p ∷ []))
       where
-        room-by : (b : Bool) → cond b (plugged k (largestPhandle (ledgerTree g)), turned g k held (g .lines ++ line k es (largestPhandle (ledgerTree g)) (ledgerTree g) p ∷ [])) (no g 38 0) .1 .base ≡ g .base
-        room-by true = refl
-        room-by false = refl
+        added : (b : Bool) → addBy g k (largestPhandle (ledgerTree g)) (line k es (largestPhandle (ledgerTree g)) (ledgerTree g) p) b .1 .base ≡ g .base
+        added true = refl
+        added false = refl
 
     go : (a b : Bool) (q : Socket) → cond a (no g 55 0) (cond b (no g 30 k) (bySocket q (plugIn g k es (ledgerTree g)) (no g 31 k) (no g 31 k))) .1 .base ≡ g .base
     go true b q = refl

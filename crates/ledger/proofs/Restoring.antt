@@ -33,7 +33,7 @@ use Rattle.overlay_rules.proofs.Rules.{keeps-unique, written-handle, raised-abo
 use Rattle.overlay_rules.proofs.Shapes.{Grows, grows-back}
 use Rattle.overlay_rules.proofs.Growing.{plan-grows}
 use Rattle.overlay_rules.proofs.Touching.{writes-is, node-absent, plan-fewer, wrote-none, restore-join, restore-reads, restore-writes}
-use Rattle.ledger.specs.Ledgers.{Line, line, planAt, merge, mergeAll, room, Socket, empty, held, shelved, Ledger, ledgerTree, socketAt, plugged, refused, bySocket, no, turned, plugBy, plugIn, step}
+use Rattle.ledger.specs.Ledgers.{Line, line, planAt, merge, mergeAll, room, Socket, empty, held, shelved, Ledger, ledgerTree, socketAt, plugged, refused, bySocket, no, turned, plugBy, plugIn, step, addBy}
 use Rattle.ledger.specs.Invariants.{Line-at, Made, Kept}
 use Rattle.ledger.specs.Promises.{None-touches, Strikes, Striking, Plugging, Answered-offset}
 use Rattle.ledger.proofs.Sockets.{room-struck}
@@ -215,11 +215,11 @@ answered-offset g n k es j d h = go (ltb n 4096) (ltb 15 k) (socketAt g k) h
 
     by : (o : Result Plan Refusal) → plugBy g k es (largestPhandle (ledgerTree g)) (ledgerTree g) o .0 ≡ plugged j d → (j ≡ k) × (d ≡ largestPhandle (ledgerTree g))
     by (Err e) h = absurd (refused-plugged h)
-    by (Ok p) h = room-by (room (g .base) (g .lines ++ line k es (largestPhandle (ledgerTree g)) (ledgerTree g) p ∷ [])) h
+    by (Ok p) h = added (room (g .base) (g .lines ++ line k es (largestPhandle (ledgerTree g)) (ledgerTree g) p ∷ [])) h
       where
-        room-by : (b : Bool) → cond b (plugged k (largestPhandle (ledgerTree g)), turned g k held (g .lines ++ line k es (largestPhandle (ledgerTree g)) (ledgerTree g) p ∷ [])) (no g 38 0) .0 ≡ plugged j d → (j ≡ k) × (d ≡ largestPhandle (ledgerTree g))
-        room-by true h = swap h
-        room-by false h = absurd (refused-plugged h)
+        added : (b : Bool) → addBy g k (largestPhandle (ledgerTree g)) (line k es (largestPhandle (ledgerTree g)) (ledgerTree g) p) b .0 ≡ plugged j d → (j ≡ k) × (d ≡ largestPhandle (ledgerTree g))
+        added true h = swap h
+        added false h = absurd (refused-plugged h)
 
     go : (a b : Bool) (q : Socket) → cond a (no g 55 0) (cond b (no g 30 k) (bySocket q (plugIn g k es (ledgerTree g)) (no g 31 k) (no g 31 k))) .0 ≡ plugged j d → (j ≡ k) × (d ≡ largestPhandle (ledgerTree g))
     go true b q h = absurd (refused-plugged h)

@@ -50,13 +50,29 @@ unfoldable pub sum : {A : Type 0} → (A → ℕ) → List A → ℕ
 sum f [] = 0
 sum f (x ∷ xs) = f x + sum f xs
 
+-- the counts and the weight of a tree, and the size of the record
+abbrev pub maxNodes : ℕ
+maxNodes = 256
+
+abbrev pub maxProperties : ℕ
+maxProperties = 1024
+
+abbrev pub maxWeight : ℕ
+maxWeight = 24576
+
+abbrev pub maxEntries : ℕ
+maxEntries = 512
+
+abbrev pub maxSaved : ℕ
+maxSaved = 32768
+
 -- the tree at opening plus the shares of the lines is within the counts and the weight of a tree, and the record within its own
 unfoldable pub room : Tree → List Line → Bool
 room base ls =
-    (leb (nodes (base .places) + sum (λ l. l .share .nodes) ls) 256
-    && (leb (properties (base .places) + sum (λ l. l .share .properties) ls) 1024
-    && leb (weight (base .places) + sum (λ l. l .share .weight) ls) 24576))
-    && (leb (sum (λ l. length (l .entries)) ls) 512 && leb (sum (λ l. savedBytes (l .entries)) ls) 32768)
+    (leb (nodes (base .places) + sum (λ l. l .share .nodes) ls) maxNodes
+    && (leb (properties (base .places) + sum (λ l. l .share .properties) ls) maxProperties
+    && leb (weight (base .places) + sum (λ l. l .share .weight) ls) maxWeight))
+    && (leb (sum (λ l. length (l .entries)) ls) maxEntries && leb (sum (λ l. savedBytes (l .entries)) ls) maxSaved)
 
 -- ---- the ledger
 
@@ -138,12 +154,15 @@ turned g k s ls = record { base = g .base; sockets = set (g .sockets) k s; lines
 abbrev pub line : ℕ → List Entry → ℕ → Tree → Plan → Line
 line k es d t p = record { socket = k; overlay = es; offset = d; share = p .share; entries = notes p t }
 
--- 32 to 37 by the plan, then 38; else one more line
+-- 38 where there is no room; else one more line
+abbrev pub addBy : Ledger → ℕ → ℕ → Line → Bool → Answer × Ledger
+addBy g k d l true = (plugged k d, turned g k held (g .lines ++ l ∷ []))
+addBy g k d l false = no g 38 0
+
+-- 32 to 37 by the plan
 abbrev pub plugBy : Ledger → ℕ → List Entry → ℕ → Tree → Result Plan Refusal → Answer × Ledger
 plugBy g k es d t (Err e) = no g (e .0) (e .1)
-plugBy g k es d t (Ok p) =
-    let ls = g .lines ++ line k es d t p ∷ [] in
-    cond (room (g .base) ls) (plugged k d, turned g k held ls) (no g 38 0)
+plugBy g k es d t (Ok p) = let l = line k es d t p in addBy g k d l (room (g .base) (g .lines ++ l ∷ []))
 
 -- at the largest phandle of the tree
 abbrev pub plugIn : Ledger → ℕ → List Entry → Tree → Answer × Ledger
