@@ -2,6 +2,7 @@
 use mathlib.Core.Path.{_≡_}
 use mathlib.Core.Bool.{true}
 use mathlib.Core.List.{List, [], _∷_, _++_}
+use Prim.Native.Nat.{ℕ}
 use lib.Chars.{codes}
 use lib.ListN.{replicate}
 use Rattle.std.specs.declared.option.Option.the-variants.{None, Some}
@@ -9,6 +10,7 @@ use Rattle.tree.specs.Entries.{Entry, wellListed}
 use Rattle.tree.specs.Numbers.{bytes32}
 use Rattle.tree.specs.Places.{Bytes}
 use Rattle.overlay_rules.specs.Checks.{check}
+use Rattle.overlay_rules.specs.Texts.{joined}
 use Rattle.overlay_rules.specs.Samples.{node, property, text, fragment, toPath, toNumber, fixup, onBody, onCell}
 
 -- an overlay with a fixup, a local fixup and a symbol
@@ -40,6 +42,16 @@ raised v os =
 abbrev pub symbol : Bytes → Bytes → List Entry
 symbol l v = fragment (toPath (codes "/")) (node 48 (codes "/__symbols__") ∷ property 56 (codes "/__symbols__") l v ∷ [])
 
+-- two labels with a cell each in one value of eight bytes
+abbrev pub two-fixups : Bytes → Bytes → List Entry
+two-fixups a b =
+    fragment (toPath (codes "/"))
+    (onBody 32 (codes "ref") (replicate 8 0) ∷ node 48 (codes "/__fixups__") ∷ fixup 56 (codes "a") (codes "/f/__overlay__:ref:" ++ a) ∷ fixup 60 (codes "b") (codes "/f/__overlay__:ref:" ++ b) ∷ [])
+
+-- so many fragments
+abbrev pub fragments : ℕ → List Entry
+fragments n = node 0 (codes "/") ∷ joined (replicate n (node 8 (codes "/f") ∷ toPath (codes "/") ∷ node 24 (codes "/f/__overlay__") ∷ []))
+
 pub record Check-examples : Type 0 where
   pub listed : wellListed whole ≡ true
   pub passes : check whole ≡ None
@@ -50,6 +62,8 @@ pub record Check-examples : Type 0 where
   -- 20: no fragment; a special child is none
   pub empty : check (node 0 (codes "/") ∷ []) ≡ Some (20, 0)
   pub special : check (node 0 (codes "/") ∷ node 8 (codes "/__fixups__") ∷ node 16 (codes "/__fixups__/__overlay__") ∷ []) ≡ Some (20, 0)
+  pub thirty-two : check (fragments 32) ≡ None
+  pub thirty-three : check (fragments 33) ≡ Some (20, 0)
   -- 21: at the fragment's node: no target, both, three bytes, no path
   pub no-target : check (node 0 (codes "/") ∷ node 8 (codes "/f") ∷ node 24 (codes "/f/__overlay__") ∷ []) ≡ Some (21, 8)
   pub one-target : check (fragment (toPath (codes "/")) []) ≡ None
@@ -62,12 +76,17 @@ pub record Check-examples : Type 0 where
   pub zeros : check (fixed (codes "/f/__overlay__:ref:04")) ≡ Some (22, 56)
   pub colons : check (fixed (codes "/f/__overlay__:ref:4:")) ≡ Some (22, 56)
   pub absent : check (fixed (codes "/f/__overlay__:reg:4")) ≡ Some (22, 56)
+  pub phandle-label : check (fragment (toPath (codes "/")) (onBody 32 (codes "ref") (replicate 8 0) ∷ node 48 (codes "/__fixups__") ∷ fixup 56 (codes "phandle") (codes "/f/__overlay__:ref:4") ∷ [])) ≡ Some (22, 56)
   -- 23: the cell holds no phandle of a body; past the end; not a multiple of four; two that share a byte
   pub local : check (raised (bytes32 1) (bytes32 0)) ≡ None
   pub foreign : check (raised (bytes32 2) (bytes32 0)) ≡ Some (23, 60)
   pub past : check (raised (bytes32 1) (bytes32 1)) ≡ Some (23, 60)
   pub odd : check (raised (bytes32 1) (0 ∷ 0 ∷ [])) ≡ Some (23, 60)
   pub twice : check (raised (bytes32 1) (bytes32 0 ++ bytes32 0)) ≡ Some (23, 60)
+  pub side-by-side : check (two-fixups (codes "0") (codes "4")) ≡ None
+  pub shared : check (two-fixups (codes "0") (codes "3")) ≡ Some (23, 60)
+  pub shared-lower : check (two-fixups (codes "4") (codes "1")) ≡ Some (23, 60)
+  pub no-body : check (fragment (toPath (codes "/")) (node 48 (codes "/__local_fixups__") ∷ property 52 (codes "/__local_fixups__") (codes "ref") [] ∷ [])) ≡ Some (23, 52)
   -- 24: no path of a body node, no zero byte, a label `phandle`
   pub names-body : check (symbol (codes "top") (text (codes "/f/__overlay__"))) ≡ None
   pub names-fragment : check (symbol (codes "top") (text (codes "/f"))) ≡ Some (24, 56)
