@@ -1,19 +1,18 @@
 -- The worked examples, each computed. Assumes nothing.
-use mathlib.Core.Path.{_≡_, refl, sym, ap, subst, _∙_}
+use mathlib.Core.Path.{_≡_, refl, sym}
 use mathlib.Core.Bool.{true}
-use mathlib.Core.List.{List, [], _∷_, _++_}
+use mathlib.Core.List.{[], _∷_}
 use mathlib.Core.Logic.{inl, inr}
-use Prim.Native.Nat.{ℕ}
 use lib.Chars.{codes}
 use lib.Dec.{lit<}
 use Rattle.std.specs.declared.cmp.Ordering.{Ordering}
 use Rattle.std.specs.declared.cmp.Ordering.the-variants.{Less, Equal, Greater}
-use Rattle.std.specs.declared.option.Option.{Option}
 use Rattle.std.specs.declared.option.Option.the-variants.{None, Some}
 use Rattle.std.specs.Finite.{All}
 use Rattle.std.specs.shelf.Lookups.{by-order}
 use Rattle.names.specs.Names.{nodeByte, propertyByte, propertyName, nodeName}
 use Rattle.names.specs.Paths.{parts as pathParts, pathText, stem, behindLast, parent}
+use Rattle.tree.specs.Entries.{listedFrom}
 use Rattle.tree.specs.Maps.{find, upd, total}
 use Rattle.tree.specs.Numbers.{be32}
 use Rattle.tree.specs.Phandles.{handles, distinctHandles, holderOf, largestOf}
@@ -23,7 +22,7 @@ use Rattle.tree.proofs.Maps.{some-none, some-one}
 use Rattle.tree.proofs.Places.{place-order}
 use Rattle.overlay_rules.specs.Texts.{zeroEnded, split, digits, decimal, behind}
 use Rattle.overlay_rules.specs.Overlays.{valueAt, fragmentNodes, bodyEntries, strings, spots, numbersFrom, labelsOf, cellsOf, targetOf, overlayOf}
-use Rattle.overlay_rules.specs.Checks.{listedFrom, bodyHandles, handleFault, cellFault, check}
+use Rattle.overlay_rules.specs.Checks.{bodyHandles, handleFault, cellFault, check}
 use Rattle.overlay_rules.specs.Plans.{labelled, known, nodeThere, numberThere, imageOf, filled, lowest, twice, again, readSymbols, planned, allowed, plan, apply}
 use Rattle.overlay_rules.specs.Queries.{_>>=_, run, asked, forEach}
 use Rattle.overlay_rules.specs.Records.{distinct, notes, restore, savedBytes}
@@ -63,7 +62,7 @@ worked = record {
 pub refusals : Refusals
 unfolding nodeByte propertyByte propertyName nodeName pathParts pathText stem behindLast parent find upd total be32 handles distinctHandles holderOf largestOf look change zeroEnded split digits decimal behind valueAt fragmentNodes bodyEntries strings spots numbersFrom labelsOf cellsOf targetOf overlayOf listedFrom bodyHandles handleFault cellFault check labelled known nodeThere numberThere imageOf filled lowest twice again readSymbols planned allowed plan apply _>>=_ run asked forEach distinct notes restore savedBytes mergeAll sum room parts blocker step history answers
 refusals = record {
-  shut-plug = refl;
+  closed-calls = refl;
   bad-handle = refl;
   no-symbols = refl;
   opened-twice = refl;

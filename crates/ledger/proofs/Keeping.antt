@@ -1,37 +1,36 @@
 -- Every call keeps what is kept of a ledger. Assumes nothing.
 use mathlib.Core.Path.{_≡_, refl, sym, ap, subst, _∙_}
-use mathlib.Core.Bool.{Bool, true, false, cond, _&&_, true≢false}
+use mathlib.Core.Bool.{Bool, true, false, cond, _&&_}
 use mathlib.Core.List.{List, [], _∷_, _++_}
-use mathlib.Core.Logic.{_⊎_, inl, inr, ⊎-elim}
+use mathlib.Core.Logic.{⊎-elim}
 use Prim.Native.Nat.{ℕ, _+_, _≤_, _<_}
 use native.Mathlib.Omega.{arith}
-use lib.Dec.{eqb, ltb, leb}
-use lib.ListN.{length, getD, set, replicate}
+use lib.Dec.{ltb, leb, lit≤}
+use lib.ListN.{length, getD, replicate}
 use Rattle.std.specs.declared.option.Option.{Option}
 use Rattle.std.specs.declared.option.Option.the-variants.{None, Some}
 use Rattle.std.specs.declared.result.Result.{Result}
 use Rattle.std.specs.declared.result.Result.the-variants.{Ok, Err}
 use Rattle.std.specs.Finite.{All}
 use Rattle.std.proofs.shelf.Lists.{length-set, length-replicate, getD-replicate, getD-past}
-use Rattle.std.proofs.shelf.Tests.{ltb-false, cases-lt, cases-eq, and-parts, leb-true, le-leb}
+use Rattle.std.proofs.shelf.Tests.{ltb-false, cases-lt, and-parts, leb-true, le-leb}
 use Rattle.tree.specs.Entries.{Entry}
 use Rattle.tree.specs.Phandles.{phandleRule, largestPhandle}
 use Rattle.tree.specs.Places.{Bytes, nodeAt}
 use Rattle.tree.specs.Trees.{Tree, look, Sound, nodes, properties, weight}
-use Rattle.overlay_rules.specs.Checks.{Refusal, check}
-use Rattle.overlay_rules.specs.Laws.{Rising, Unique, Fewer}
-use Rattle.overlay_rules.specs.Overlays.{overlayOf, symbolsPath, phandleAt}
-use Rattle.overlay_rules.specs.Plans.{Plan, plan, apply}
+use Rattle.overlay_rules.specs.Checks.{Refusal}
+use Rattle.overlay_rules.specs.Laws.{Rising, Unique}
+use Rattle.overlay_rules.specs.Overlays.{overlayOf, symbolsPath}
+use Rattle.overlay_rules.specs.Plans.{Plan, apply}
 use Rattle.overlay_rules.specs.Queries.{run}
-use Rattle.overlay_rules.specs.Records.{notes}
 use Rattle.overlay_rules.proofs.Checking.{passed}
 use Rattle.overlay_rules.proofs.Looks.{rule-unique, at-most-largest}
 use Rattle.overlay_rules.proofs.Planning.{plan-is}
 use Rattle.overlay_rules.proofs.Rules.{keeps-unique}
-use Rattle.ledger.specs.Ledgers.{Line, planAt, merge, mergeAll, sum, room, Socket, empty, held, shelved, Ledger, ledgerTree, fresh, socketAt, Parts, parts, blocker, Call, opening, plug, unplug, handOver, takeBack, Answer, plugged, receipt, granted, refused, bySocket, no, turned, line, plugBy, plugIn, strikeBy, unplugBy, step, Book, shut, opened, openBy, shutCall, call, history}
+use Rattle.ledger.specs.Ledgers.{planAt, mergeAll, sum, room, Socket, empty, held, shelved, Ledger, ledgerTree, fresh, socketAt, Parts, parts, blocker, Call, opening, plug, unplug, handOver, takeBack, plugged, receipt, granted, bySocket, no, turned, line, plugBy, plugIn, strikeBy, unplugBy, step, State, closed, opened, openBy, closedCall, call, history, addBy}
 use Rattle.ledger.specs.Invariants.{Fit, Fit-call, Line-at, Made, count, occupied, Kept}
-use Rattle.ledger.proofs.Sockets.{count-join, count-other, count-own, count-none, Found, found, tied-again, Roomy, is-room, room-struck}
-use Rattle.ledger.proofs.Striking.{merge-is, rises-all, struck, Struck, made-push, all-push}
+use Rattle.ledger.proofs.Sockets.{count-join, count-other, count-own, count-none, Found, found, tied-again, is-room, room-struck}
+use Rattle.ledger.proofs.Striking.{merge-is, rises-all, struck, made-push, all-push}
 
 -- ---- opening
 
@@ -41,8 +40,8 @@ open-socket k = ⊎-elim
     (λ h. getD-past (replicate 16 empty) k empty (omega (arith, length-replicate 16 empty)))
     (cases-lt k 16)
 
-le-zero : (a m : ℕ) → leb a m ≡ true → leb (a + 0) m ≡ true
-le-zero a m h = le-leb _ _ (omega (arith, leb-true a m h))
+le-zero : (a m n : ℕ) → leb a m ≡ true → m ≤ n → leb (a + 0) n ≡ true
+le-zero a m n h l = le-leb _ _ (omega (arith, leb-true a m h))
 
 pub fresh-kept : (t : Tree) (v : Bytes) → Sound t → phandleRule t ≡ true → look t (nodeAt symbolsPath) ≡ Some v → Kept (fresh t)
 unfolding Made mergeAll sum
@@ -55,7 +54,7 @@ fresh-kept t v s r h =
       symbols = h ∙ ap Some (s .bare symbolsPath v h);
       made = tt;
       lawful = rule-unique t r;
-      fits = is-room t [] (record { nodes = le-zero _ _ (a .0); properties = le-zero _ _ (b .0); weight = le-zero _ _ (b .1); entries = refl; saved = refl });
+      fits = is-room t [] (record { nodes = le-zero _ 256 _ (a .0) (lit≤ tt); properties = le-zero _ 1024 _ (b .0) (lit≤ tt); weight = le-zero _ 24576 _ (b .1) (lit≤ tt); entries = refl; saved = refl });
       sixteen = length-replicate 16 empty;
       tied = λ k. count-none k ∙ ap occupied (sym (open-socket k));
     }
@@ -146,8 +145,7 @@ module _ (g : Ledger) (kept : Kept g) where
   plug-by-kept k es f small q (Err e) h = kept
   plug-by-kept k es f small q (Ok p) h = go (room (g .base) (g .lines ++ line k es (largestPhandle (ledgerTree g)) (ledgerTree g) p ∷ [])) refl
     where
-      go : (b : Bool) → room (g .base) (g .lines ++ line k es (largestPhandle (ledgerTree g)) (ledgerTree g) p ∷ []) ≡ b
-          → Kept (cond b (plugged k (largestPhandle (ledgerTree g)), turned g k held (g .lines ++ line k es (largestPhandle (ledgerTree g)) (ledgerTree g) p ∷ [])) (no g 38 0) .1)
+      go : (b : Bool) → room (g .base) (g .lines ++ line k es (largestPhandle (ledgerTree g)) (ledgerTree g) p ∷ []) ≡ b → Kept (addBy g k (largestPhandle (ledgerTree g)) (line k es (largestPhandle (ledgerTree g)) (ledgerTree g) p) b .1)
       go true r = plug-kept k es p f small q h r
       go false r = kept
 
@@ -201,11 +199,11 @@ step-base g (plug n k es) = go (ltb n 4096) (ltb 15 k) (socketAt g k)
   where
     by : (o : Result Plan Refusal) → plugBy g k es (largestPhandle (ledgerTree g)) (ledgerTree g) o .1 .base ≡ g .base
     by (Err e) = refl
-    by (Ok p) = room-by (room (g .base) (g .lines ++ line k es (largestPhandle (ledgerTree g)) (ledgerTree g) p ∷ []))
+    by (Ok p) = added (room (g .base) (g .lines ++ line k es (largestPhandle (ledgerTree g)) (ledgerTree g) p ∷ []))
       where
-        room-by : (b : Bool) → cond b (plugged k (largestPhandle (ledgerTree g)), turned g k held (g .lines ++ line k es (largestPhandle (ledgerTree g)) (ledgerTree g) p ∷ [])) (no g 38 0) .1 .base ≡ g .base
-        room-by true = refl
-        room-by false = refl
+        added : (b : Bool) → addBy g k (largestPhandle (ledgerTree g)) (line k es (largestPhandle (ledgerTree g)) (ledgerTree g) p) b .1 .base ≡ g .base
+        added true = refl
+        added false = refl
 
     go : (a b : Bool) (q : Socket) → cond a (no g 55 0) (cond b (no g 30 k) (bySocket q (plugIn g k es (ledgerTree g)) (no g 31 k) (no g 31 k))) .1 .base ≡ g .base
     go true b q = refl
@@ -242,28 +240,28 @@ step-base g (takeBack k) = go (ltb 15 k) (socketAt g k)
     go false held = refl
     go false shelved = refl
 
--- a book of the tree t: closed over it, or a ledger on it that is kept
-abbrev pub Book-of : Tree → Book → Type 0
-Book-of t (shut u) = u ≡ t
-Book-of t (opened g) = (g .base ≡ t) × Kept g
+-- a state over the tree t: closed, or a ledger on it that is kept
+abbrev pub State-of : Tree → State → Type 0
+State-of t (closed u) = u ≡ t
+State-of t (opened g) = (g .base ≡ t) × Kept g
 
-open-kept : (t : Tree) → Sound t → (b : Bool) → phandleRule t ≡ b → (w : Option Bytes) → look t (nodeAt symbolsPath) ≡ w → Book-of t (openBy t b w .1)
+open-kept : (t : Tree) → Sound t → (b : Bool) → phandleRule t ≡ b → (w : Option Bytes) → look t (nodeAt symbolsPath) ≡ w → State-of t (openBy t b w .1)
 open-kept t s false r w h = refl
 open-kept t s true r None h = refl
 open-kept t s true r (Some v) h = (refl, fresh-kept t v s r h)
 
-shut-kept : (t u : Tree) → Sound t → (c : Call) → u ≡ t → Book-of t (shutCall u c .1)
-shut-kept t u s opening e = subst (λ z. Book-of t (shutCall z opening .1)) (sym e) (open-kept t s (phandleRule t) refl (look t (nodeAt symbolsPath)) refl)
-shut-kept t u s (plug n k es) e = e
-shut-kept t u s (unplug n k) e = e
-shut-kept t u s (handOver k) e = e
-shut-kept t u s (takeBack k) e = e
+closed-kept : (t u : Tree) → Sound t → (c : Call) → u ≡ t → State-of t (closedCall u c .1)
+closed-kept t u s opening e = subst (λ z. State-of t (closedCall z opening .1)) (sym e) (open-kept t s (phandleRule t) refl (look t (nodeAt symbolsPath)) refl)
+closed-kept t u s (plug n k es) e = e
+closed-kept t u s (unplug n k) e = e
+closed-kept t u s (handOver k) e = e
+closed-kept t u s (takeBack k) e = e
 
-pub call-kept : (t : Tree) → Sound t → (b : Book) (c : Call) → Fit-call c → Book-of t b → Book-of t (call b c .1)
-call-kept t s (shut u) c f h = shut-kept t u s c h
+pub call-kept : (t : Tree) → Sound t → (b : State) (c : Call) → Fit-call c → State-of t b → State-of t (call b c .1)
+call-kept t s (closed u) c f h = closed-kept t u s c h
 call-kept t s (opened g) c f h = (step-base g c ∙ h .0, step-kept g (h .1) c f)
 
-pub history-kept : (t : Tree) → Sound t → (cs : List Call) (b : Book) → All Fit-call cs → Book-of t b → Book-of t (history b cs)
+pub history-kept : (t : Tree) → Sound t → (cs : List Call) (b : State) → All Fit-call cs → State-of t b → State-of t (history b cs)
 unfolding history
 history-kept t s [] b f h = h
 history-kept t s (c ∷ cs) b f h = history-kept t s cs (call b c .1) (f .1) (call-kept t s b c (f .0) h)

@@ -1,5 +1,6 @@
 pub mod Examples
 pub mod Keeping
+pub mod Logging
 pub mod Restoring
 pub mod Sockets
 pub mod Sounding

@@ -3,45 +3,41 @@ use mathlib.Core.Path.{_≡_, refl, sym, ap, subst, _∙_}
 use mathlib.Core.Bool.{Bool, true, false, cond}
 use mathlib.Core.List.{List, [], _∷_, _++_, map}
 use mathlib.Core.Logic.{_⊎_, inl, inr, ⊎-elim}
-use Prim.Native.Nat.{ℕ, _+_, _≤_, _<_, zero, suc}
+use Prim.Native.Nat.{ℕ, _<_, zero, suc}
 use native.Mathlib.Omega.{arith}
-use lib.Dec.{ltb, leb}
-use lib.ListN.{length, take, drop}
-use Rattle.std.specs.declared.option.Option.{Option}
+use lib.Dec.{ltb}
+use lib.ListN.{take, drop}
 use Rattle.std.specs.declared.option.Option.the-variants.{None, Some}
 use Rattle.std.specs.declared.result.Result.{Result}
 use Rattle.std.specs.declared.result.Result.the-variants.{Ok, Err}
 use Rattle.std.specs.Finite.{All}
 use Rattle.std.proofs.shelf.Lists.{take-append-drop, append-nil}
-use Rattle.std.proofs.shelf.Tests.{leb-true}
-use Rattle.tree.specs.Entries.{Entry, listed}
-use Rattle.tree.specs.Maps.{total}
+use Rattle.tree.specs.Entries.{Entry}
 use Rattle.tree.specs.Numbers.{be32}
 use Rattle.tree.specs.Phandles.{largestPhandle}
-use Rattle.tree.specs.Places.{Bytes, Place, nodeAt}
-use Rattle.tree.specs.Trees.{Tree, look, change, upPlace, nodes, properties, weight, Sound}
+use Rattle.tree.specs.Places.{Bytes, Place}
+use Rattle.tree.specs.Trees.{Tree, look, change, upPlace, Sound}
 use Rattle.tree.proofs.Maps.{some-none}
 use Rattle.overlay_rules.specs.Checks.{Refusal}
-use Rattle.overlay_rules.specs.Laws.{Rising, In, Unique, Fewer, Free, Off}
-use Rattle.overlay_rules.specs.Overlays.{overlayOf, symbolsPath, phandleAt}
-use Rattle.overlay_rules.specs.Plans.{Plan, plan, apply}
+use Rattle.overlay_rules.specs.Laws.{Rising, In, Fewer, Free, Off}
+use Rattle.overlay_rules.specs.Overlays.{overlayOf, phandleAt}
+use Rattle.overlay_rules.specs.Plans.{Plan, apply}
 use Rattle.overlay_rules.specs.Queries.{run}
-use Rattle.overlay_rules.specs.Records.{Mark, Note, readNote, writeNote, created, distinct, notes, putBack, restore, wrote}
+use Rattle.overlay_rules.specs.Records.{Note, readNote, writeNote, created, distinct, notes, putBack, restore, wrote}
 use Rattle.overlay_rules.proofs.Lists.{all-at, all-from, all-right, in-right}
 use Rattle.overlay_rules.proofs.Looks.{look-same, look-other, decide-place, at-most-largest}
-use Rattle.overlay_rules.proofs.Asking.{ok-one}
 use Rattle.overlay_rules.proofs.Checking.{passed}
-use Rattle.overlay_rules.proofs.Journals.{Distinct, look-out, look-from, back}
-use Rattle.overlay_rules.proofs.Planning.{Planned, Allowed, plan-is}
+use Rattle.overlay_rules.proofs.Journals.{Distinct, look-out, look-from}
+use Rattle.overlay_rules.proofs.Planning.{plan-is}
 use Rattle.overlay_rules.proofs.Rules.{keeps-unique, written-handle, raised-above}
-use Rattle.overlay_rules.proofs.Shapes.{Shape, shape-of, Grows, Fits-in, grown, grows-front, grows-back, sound-from}
+use Rattle.overlay_rules.proofs.Shapes.{Grows, grows-back}
 use Rattle.overlay_rules.proofs.Growing.{plan-grows}
 use Rattle.overlay_rules.proofs.Touching.{writes-is, node-absent, plan-fewer, wrote-none, restore-join, restore-reads, restore-writes}
-use Rattle.ledger.specs.Ledgers.{Line, line, planAt, merge, mergeAll, sum, room, Socket, empty, held, shelved, Ledger, ledgerTree, socketAt, Answer, plugged, refused, bySocket, no, turned, plug, plugBy, plugIn, step}
-use Rattle.ledger.specs.Invariants.{Fit, Line-at, Made, Kept}
-use Rattle.ledger.specs.Promises.{Touches, None-touches, Strikes, Striking, Plugs, Plugging, Answered-offset}
+use Rattle.ledger.specs.Ledgers.{Line, line, planAt, merge, mergeAll, room, Socket, empty, held, shelved, Ledger, ledgerTree, socketAt, plugged, refused, bySocket, no, turned, plugBy, plugIn, step, addBy}
+use Rattle.ledger.specs.Invariants.{Line-at, Made, Kept}
+use Rattle.ledger.specs.Promises.{None-touches, Strikes, Striking, Plugging, Answered-offset}
 use Rattle.ledger.proofs.Sockets.{room-struck}
-use Rattle.ledger.proofs.Striking.{merge-is, line-plan, rises-merge, rises-all, all-join, follow, Followed, line-same, struck, Struck}
+use Rattle.ledger.proofs.Striking.{merge-is, line-plan, rises-merge, rises-all, all-join, follow, line-same, struck, Struck}
 use Rattle.ledger.proofs.Sounding.{made-front, shape-at, cut-sound, push-sound}
 use Rattle.ledger.proofs.Unplugging.{free-none, not-touched, made-at, made-behind, can-be-done}
 
@@ -219,11 +215,11 @@ answered-offset g n k es j d h = go (ltb n 4096) (ltb 15 k) (socketAt g k) h
 
     by : (o : Result Plan Refusal) → plugBy g k es (largestPhandle (ledgerTree g)) (ledgerTree g) o .0 ≡ plugged j d → (j ≡ k) × (d ≡ largestPhandle (ledgerTree g))
     by (Err e) h = absurd (refused-plugged h)
-    by (Ok p) h = room-by (room (g .base) (g .lines ++ line k es (largestPhandle (ledgerTree g)) (ledgerTree g) p ∷ [])) h
+    by (Ok p) h = added (room (g .base) (g .lines ++ line k es (largestPhandle (ledgerTree g)) (ledgerTree g) p ∷ [])) h
       where
-        room-by : (b : Bool) → cond b (plugged k (largestPhandle (ledgerTree g)), turned g k held (g .lines ++ line k es (largestPhandle (ledgerTree g)) (ledgerTree g) p ∷ [])) (no g 38 0) .0 ≡ plugged j d → (j ≡ k) × (d ≡ largestPhandle (ledgerTree g))
-        room-by true h = swap h
-        room-by false h = absurd (refused-plugged h)
+        added : (b : Bool) → addBy g k (largestPhandle (ledgerTree g)) (line k es (largestPhandle (ledgerTree g)) (ledgerTree g) p) b .0 ≡ plugged j d → (j ≡ k) × (d ≡ largestPhandle (ledgerTree g))
+        added true h = swap h
+        added false h = absurd (refused-plugged h)
 
     go : (a b : Bool) (q : Socket) → cond a (no g 55 0) (cond b (no g 30 k) (bySocket q (plugIn g k es (ledgerTree g)) (no g 31 k) (no g 31 k))) .0 ≡ plugged j d → (j ≡ k) × (d ≡ largestPhandle (ledgerTree g))
     go true b q h = absurd (refused-plugged h)

@@ -1,19 +1,18 @@
 -- Lines of a socket: how many, and which. Assumes nothing.
-use mathlib.Core.Path.{_≡_, refl, sym, ap, subst, _∙_}
+use mathlib.Core.Path.{_≡_, refl, sym, ap, _∙_}
 use mathlib.Core.Bool.{Bool, true, false, cond, _&&_}
 use mathlib.Core.List.{List, [], _∷_, _++_}
-use mathlib.Core.Logic.{_⊎_, inl, inr, ⊎-elim}
+use mathlib.Core.Logic.{⊎-elim}
 use Prim.Native.Nat.{ℕ, _+_, _≤_, _<_}
 use native.Mathlib.Omega.{arith}
 use lib.Dec.{eqb, leb}
 use lib.ListN.{length, getD, set}
-use Rattle.std.specs.declared.option.Option.{Option}
-use Rattle.std.specs.declared.option.Option.the-variants.{None, Some}
+use Rattle.std.specs.declared.option.Option.the-variants.{Some}
 use Rattle.std.proofs.shelf.Lists.{getD-set-same, getD-set-other}
-use Rattle.std.proofs.shelf.Tests.{eq-eqb, ne-eqb, eqb-true, eqb-false, cond-true, cond-false, cases-eq, and-parts, and-from, leb-true, le-leb}
+use Rattle.std.proofs.shelf.Tests.{eq-eqb, ne-eqb, eqb-true, cond-true, cond-false, cases-eq, and-parts, and-from, leb-true, le-leb}
 use Rattle.tree.specs.Trees.{Tree, nodes, properties, weight}
 use Rattle.overlay_rules.specs.Records.{savedBytes}
-use Rattle.ledger.specs.Ledgers.{Line, sum, room, Socket, empty, Parts, after, parts}
+use Rattle.ledger.specs.Ledgers.{Line, sum, room, Socket, empty, after, parts, maxNodes, maxProperties, maxWeight, maxEntries, maxSaved}
 use Rattle.ledger.specs.Invariants.{count, occupied}
 
 pub count-join : (k : ℕ) (ks ls : List Line) → count k (ks ++ ls) ≡ count k ks + count k ls
@@ -103,20 +102,20 @@ le-less0 b c m h e = le-leb _ _ (omega (arith, leb-true _ _ e))
 
 -- room is a limit on five sums over the lines
 pub record Roomy (base : Tree) (ls : List Line) : Type 0 where
-  pub nodes : leb (nodes (base .places) + sum (λ l. l .share .nodes) ls) 256 ≡ true
-  pub properties : leb (properties (base .places) + sum (λ l. l .share .properties) ls) 1024 ≡ true
-  pub weight : leb (weight (base .places) + sum (λ l. l .share .weight) ls) 24576 ≡ true
-  pub entries : leb (sum (λ l. length (l .entries)) ls) 512 ≡ true
-  pub saved : leb (sum (λ l. savedBytes (l .entries)) ls) 32768 ≡ true
+  pub nodes : leb (nodes (base .places) + sum (λ l. l .share .nodes) ls) maxNodes ≡ true
+  pub properties : leb (properties (base .places) + sum (λ l. l .share .properties) ls) maxProperties ≡ true
+  pub weight : leb (weight (base .places) + sum (λ l. l .share .weight) ls) maxWeight ≡ true
+  pub entries : leb (sum (λ l. length (l .entries)) ls) maxEntries ≡ true
+  pub saved : leb (sum (λ l. savedBytes (l .entries)) ls) maxSaved ≡ true
 
 pub room-is : (base : Tree) (ls : List Line) → room base ls ≡ true → Roomy base ls
 unfolding room
 room-is base ls h =
-    let N = leb (nodes (base .places) + sum (λ l. l .share .nodes) ls) 256 in
-    let P = leb (properties (base .places) + sum (λ l. l .share .properties) ls) 1024 in
-    let W = leb (weight (base .places) + sum (λ l. l .share .weight) ls) 24576 in
-    let E = leb (sum (λ l. length (l .entries)) ls) 512 in
-    let S = leb (sum (λ l. savedBytes (l .entries)) ls) 32768 in
+    let N = leb (nodes (base .places) + sum (λ l. l .share .nodes) ls) maxNodes in
+    let P = leb (properties (base .places) + sum (λ l. l .share .properties) ls) maxProperties in
+    let W = leb (weight (base .places) + sum (λ l. l .share .weight) ls) maxWeight in
+    let E = leb (sum (λ l. length (l .entries)) ls) maxEntries in
+    let S = leb (sum (λ l. savedBytes (l .entries)) ls) maxSaved in
     let a = and-parts (N && (P && W)) (E && S) h in
     let b = and-parts N (P && W) (a .0) in
     let c = and-parts P W (b .1) in

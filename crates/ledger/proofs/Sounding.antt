@@ -1,43 +1,37 @@
 -- The trees of a ledger are trees by the rules, also while a line is restored. Assumes nothing.
 use mathlib.Core.Path.{_≡_, refl, sym, ap, subst, _∙_}
-use mathlib.Core.Bool.{Bool, true, false, cond, _&&_}
-use mathlib.Core.List.{List, [], _∷_, _++_, map}
-use mathlib.Core.Logic.{_⊎_, inl, inr, ⊎-elim}
-use Prim.Native.Nat.{ℕ, _+_, _≤_, _<_, zero, suc}
+use mathlib.Core.Bool.{true, false}
+use mathlib.Core.List.{List, [], _∷_, _++_}
+use mathlib.Core.Logic.{⊎-elim}
+use Prim.Native.Nat.{ℕ, _+_, _≤_}
 use native.Mathlib.Omega.{arith}
-use lib.Dec.{leb}
-use lib.ListN.{length, take, drop}
-use Rattle.std.specs.declared.option.Option.{Option}
 use Rattle.std.specs.declared.option.Option.the-variants.{None, Some}
 use Rattle.std.specs.declared.result.Result.the-variants.{Ok}
-use Rattle.std.specs.Finite.{All}
-use Rattle.std.proofs.shelf.Lists.{take-append-drop, append-assoc, append-nil}
+use Rattle.std.proofs.shelf.Lists.{append-nil}
 use Rattle.std.proofs.shelf.Tests.{leb-true}
 use Rattle.tree.specs.Entries.{Entry, listed}
 use Rattle.tree.specs.Maps.{total}
-use Rattle.tree.specs.Numbers.{be32}
 use Rattle.tree.specs.Phandles.{largestPhandle}
 use Rattle.tree.specs.Places.{Bytes, Place, nodeAt}
-use Rattle.tree.specs.Trees.{Places, Tree, look, change, nodeCount, propertyCount, weigh, nodes, properties, weight, upPlace, Sound}
-use Rattle.tree.proofs.Maps.{some-none}
-use Rattle.overlay_rules.specs.Laws.{Rising, In, Unique, Fewer, Free, Off}
+use Rattle.tree.specs.Trees.{Places, Tree, look, nodeCount, propertyCount, weigh, nodes, properties, weight, Sound}
+use Rattle.overlay_rules.specs.Laws.{Rising, In, Fewer, Free, Off}
 use Rattle.overlay_rules.specs.Overlays.{overlayOf, symbolsPath, phandleAt}
-use Rattle.overlay_rules.specs.Plans.{Share, shareOf, shared, Plan, plan, apply}
+use Rattle.overlay_rules.specs.Plans.{Share, shareOf, shared, Plan, apply}
 use Rattle.overlay_rules.specs.Queries.{run}
-use Rattle.overlay_rules.specs.Records.{Note, readNote, writeNote, created, distinct, notes, putBack, restore, wrote}
-use Rattle.overlay_rules.proofs.Lists.{all-at, all-from, all-left, in-left, in-right}
-use Rattle.overlay_rules.proofs.Looks.{tree-ext, look-same, look-other, decide-place}
+use Rattle.overlay_rules.specs.Records.{distinct, wrote}
+use Rattle.overlay_rules.proofs.Lists.{all-at, all-left, in-left, in-right}
+use Rattle.overlay_rules.proofs.Looks.{tree-ext}
 use Rattle.overlay_rules.proofs.Checking.{passed}
-use Rattle.overlay_rules.proofs.Journals.{Distinct, rises-apply, boot-apply, apply-join, hits-or-free, look-out, look-in, look-from, back, rises-back, boot-back, back-in, back-out}
-use Rattle.overlay_rules.proofs.Planning.{Planned, Allowed}
-use Rattle.overlay_rules.proofs.Touching.{writes-is, node-absent, plan-fewer, wrote-none, restore-writes}
-use Rattle.overlay_rules.proofs.Shapes.{Shape, shape-of, Grows, grown, grows-front, grows-back, node-stays, cost-join, total-apply, sound-from}
+use Rattle.overlay_rules.proofs.Journals.{Distinct, rises-apply, boot-apply, hits-or-free, look-out, look-in, look-from, back, rises-back, boot-back, back-in, back-out}
+use Rattle.overlay_rules.proofs.Planning.{Planned}
+use Rattle.overlay_rules.proofs.Touching.{writes-is, plan-fewer, wrote-none}
+use Rattle.overlay_rules.proofs.Shapes.{Shape, shape-of, Grows, grown, grows-front, node-stays, cost-join, total-apply, sound-from}
 use Rattle.overlay_rules.proofs.Growing.{plan-grows, share-is, cost-share}
 use Rattle.ledger.specs.Ledgers.{Line, line, planAt, merge, mergeAll, sum, room, blocker, Ledger, ledgerTree}
 use Rattle.ledger.specs.Invariants.{Fit, Line-at, Made, Kept}
-use Rattle.ledger.proofs.Sockets.{sum-join, Roomy, room-is}
+use Rattle.ledger.proofs.Sockets.{sum-join, room-is}
 use Rattle.ledger.proofs.Striking.{merge-is, line-plan, rises-merge, rises-all, boot-all, all-join, follow, Followed}
-use Rattle.ledger.proofs.Unplugging.{made-at, made-behind}
+use Rattle.ledger.proofs.Unplugging.{made-behind}
 
 -- ---- shapes
 

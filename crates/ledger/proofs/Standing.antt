@@ -2,31 +2,26 @@
 use mathlib.Core.Path.{_≡_, refl, sym, ap, subst, _∙_}
 use mathlib.Core.Bool.{true, false}
 use mathlib.Core.List.{List, [], _∷_, _++_}
-use mathlib.Core.Logic.{_⊎_, inl, inr, ⊎-elim}
-use Prim.Native.Nat.{ℕ}
-use Rattle.std.specs.declared.option.Option.the-variants.{None, Some}
-use Rattle.std.specs.declared.result.Result.the-variants.{Ok}
+use Rattle.std.specs.declared.option.Option.the-variants.{Some}
 use Rattle.std.specs.Finite.{All}
-use Rattle.tree.specs.Entries.{Entry}
-use Rattle.tree.specs.Numbers.{be32}
 use Rattle.tree.specs.Phandles.{phandleRule}
-use Rattle.tree.specs.Places.{Bytes, Place}
-use Rattle.tree.specs.Trees.{Tree, look, Sound}
-use Rattle.overlay_rules.specs.Laws.{Rising, In, Valid, Unique, Fewer, Points}
+use Rattle.tree.specs.Places.{Place}
+use Rattle.tree.specs.Trees.{Tree, look}
+use Rattle.overlay_rules.specs.Laws.{Rising, In, Valid, Fewer}
 use Rattle.overlay_rules.specs.Overlays.{phandleAt, overlayOf}
 use Rattle.overlay_rules.specs.Plans.{Plan, Reference, plan, apply}
 use Rattle.overlay_rules.specs.Records.{wrote}
 use Rattle.overlay_rules.proofs.Asking.{ok-one}
 use Rattle.overlay_rules.proofs.Checking.{passed}
 use Rattle.overlay_rules.proofs.Journals.{look-out}
-use Rattle.overlay_rules.proofs.Looks.{rule-valid, rule-unique, rule-from}
+use Rattle.overlay_rules.proofs.Looks.{rule-valid, rule-from}
 use Rattle.overlay_rules.proofs.References.{points}
 use Rattle.overlay_rules.proofs.Rules.{keeps-valid}
 use Rattle.overlay_rules.proofs.Touching.{plan-fewer, wrote-none}
-use Rattle.ledger.specs.Ledgers.{Line, merge, mergeAll, Ledger, ledgerTree, Call, Book, shut, opened, history}
-use Rattle.ledger.specs.Invariants.{Fit-call, Line-at, Made, Kept}
+use Rattle.ledger.specs.Ledgers.{Line, merge, mergeAll, Ledger, ledgerTree, State, closed, opened, history}
+use Rattle.ledger.specs.Invariants.{Line-at, Made, Kept}
 use Rattle.ledger.specs.Promises.{Stands, Refers, Promise, Promised, Every-history, Invariant}
-use Rattle.ledger.proofs.Keeping.{fresh-kept, step-kept, Book-of, history-kept}
+use Rattle.ledger.proofs.Keeping.{fresh-kept, step-kept, State-of, history-kept}
 use Rattle.ledger.proofs.Sounding.{tree-sound}
 use Rattle.ledger.proofs.Striking.{merge-is, line-plan, rises-merge, rises-all, all-join}
 use Rattle.ledger.proofs.Unplugging.{unplugs, made-at, made-behind, each-can-be-done}
@@ -105,12 +100,12 @@ module _ (g : Ledger) (kept : Kept g) where
     refers = refers;
   }
 
-promised : (t : Tree) (b : Book) → Book-of t b → Promised t b
-promised t (shut u) h = h
+promised : (t : Tree) (b : State) → State-of t b → Promised t b
+promised t (closed u) h = h
 promised t (opened g) h = (h .0, promise g (h .1))
 
 pub every-history : Every-history
-every-history t calls s f = promised t (history (shut t) calls) (history-kept t s calls (shut t) f refl)
+every-history t calls s f = promised t (history (closed t) calls) (history-kept t s calls (closed t) f refl)
 
 pub invariant : Invariant
 invariant = record { opens = fresh-kept; steps = λ g k c f. step-kept g k c f; promises = promise }

@@ -1,24 +1,22 @@
 -- A line that no later one touches can be struck. Assumes nothing.
 use mathlib.Core.Path.{_≡_, refl, sym, ap, subst, _∙_}
-use mathlib.Core.Bool.{Bool, true, false, cond, _||_, true≢false}
+use mathlib.Core.Bool.{Bool, true, false, cond}
 use mathlib.Core.List.{List, [], _∷_, _++_, map}
-use mathlib.Core.Logic.{_⊎_, inl, inr, ⊎-elim}
+use mathlib.Core.Logic.{inl, inr, ⊎-elim}
 use Prim.Native.Nat.{ℕ}
-use Rattle.std.specs.declared.option.Option.{Option}
 use Rattle.std.specs.declared.option.Option.the-variants.{None, Some}
 use Rattle.std.specs.declared.result.Result.{Result}
 use Rattle.std.specs.declared.result.Result.the-variants.{Ok, Err}
-use Rattle.std.specs.Finite.{All}
 use Rattle.tree.specs.Entries.{Entry}
-use Rattle.tree.specs.Places.{Bytes, Place}
+use Rattle.tree.specs.Places.{Place}
 use Rattle.tree.specs.Trees.{Tree, look}
 use Rattle.tree.proofs.Maps.{some-none}
 use Rattle.overlay_rules.specs.Checks.{Refusal}
-use Rattle.overlay_rules.specs.Overlays.{Overlay, overlayOf, phandleAt}
-use Rattle.overlay_rules.specs.Plans.{Plan, plan, apply}
+use Rattle.overlay_rules.specs.Overlays.{overlayOf, phandleAt}
+use Rattle.overlay_rules.specs.Plans.{Plan, apply}
 use Rattle.overlay_rules.specs.Queries.{run, asked}
 use Rattle.overlay_rules.specs.Records.{Note, markOf, writeNote, readNote, distinct, earlier, notes, restore, wrote, touches}
-use Rattle.overlay_rules.specs.Laws.{Rising, In, Unique, Fewer, Same-at, Free, Off, Writes-at}
+use Rattle.overlay_rules.specs.Laws.{Rising, In, Fewer, Same-at, Free, Off}
 use Rattle.overlay_rules.proofs.Lists.{all-at, all-from, some-false}
 use Rattle.overlay_rules.proofs.Looks.{tree-ext}
 use Rattle.overlay_rules.proofs.Asking.{run-same}

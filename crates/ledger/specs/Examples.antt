@@ -1,32 +1,29 @@
 -- Worked examples of whole histories, on the tree with `/soc/bus`, phandle 5, which the label `bus` names. Assumes nothing.
 use mathlib.Core.Path.{_≡_}
-use mathlib.Core.Bool.{Bool, true}
 use mathlib.Core.List.{List, [], _∷_, _++_}
 use Prim.Native.Nat.{ℕ}
 use lib.Chars.{codes}
 use lib.ListN.{replicate}
-use Rattle.std.specs.declared.option.Option.{Option}
 use Rattle.std.specs.declared.option.Option.the-variants.{None, Some}
 use Rattle.tree.specs.Entries.{Entry}
 use Rattle.tree.specs.Numbers.{bytes32}
-use Rattle.tree.specs.Phandles.{phandleRule}
 use Rattle.tree.specs.Places.{Bytes, propertyAt}
 use Rattle.std.specs.Finite.{All}
 use Rattle.tree.specs.Trees.{Tree, look, weight, Sound}
-use Rattle.overlay_rules.specs.Checks.{check, wellListed}
+use Rattle.overlay_rules.specs.Checks.{check}
 use Rattle.overlay_rules.specs.CheckExamples.{fixed}
 use Rattle.overlay_rules.specs.Overlays.{phandleAt}
 use Rattle.overlay_rules.specs.PlanExamples.{refers}
 use Rattle.overlay_rules.specs.Samples.{node, property, text, fragment, toPath, base, baseWith, addsCell, setsAt, setsOn, addsChild}
-use Rattle.ledger.specs.Ledgers.{Call, opening, plug, unplug, handOver, takeBack, Answer, plugged, receipt, granted, refused, Ledger, fresh, Book, shut, opened, call, history, answers, bookTree}
-use Rattle.ledger.specs.Invariants.{Fit-call}
+use Rattle.ledger.specs.Ledgers.{Call, opening, plug, unplug, handOver, takeBack, Answer, plugged, receipt, granted, refused, Ledger, fresh, State, closed, opened, call, history, answers, stateTree}
+use Rattle.ledger.specs.Invariants.{Fit, Fit-call}
 use Rattle.ledger.specs.Promises.{Promised, Stands}
 
 abbrev pub ran : Tree → List Call → Tree
-ran t cs = bookTree (history (shut t) (opening ∷ cs))
+ran t cs = stateTree (history (closed t) (opening ∷ cs))
 
 abbrev pub said : Tree → List Call → List Answer
-said t cs = answers (shut t) (opening ∷ cs)
+said t cs = answers (closed t) (opening ∷ cs)
 
 abbrev pub in0 : List Entry → Call
 in0 es = plug 4096 0 es
@@ -56,13 +53,9 @@ cellPath = codes "/soc/bus/cell@1"
 abbrev pub g-and-h : List Call
 g-and-h = in0 addsCell ∷ in1 (addsChild (codes "g")) ∷ out0 ∷ in0 (addsChild (codes "h")) ∷ []
 
--- what a history's overlays have to be
-abbrev pub Good : List Entry → Type 0
-Good es = (wellListed es ≡ true) × (check es ≡ None)
-
 pub record Worked : Type 0 where
   -- the overlays are well listed and pass the check
-  pub good : Good addsCell × Good status × Good rate × Good (mode (9 ∷ [])) × Good (addsChild (codes "g")) × Good (addsChild (codes "h"))
+  pub good : Fit addsCell × Fit status × Fit rate × Fit (mode (9 ∷ [])) × Fit (addsChild (codes "g")) × Fit (addsChild (codes "h"))
   -- the offset is 5, and the new cell has phandle 6
   pub cell-said : said base (in0 addsCell ∷ []) ≡ granted ∷ plugged 0 5 ∷ []
   pub cell-handle : look (ran base (in0 addsCell ∷ [])) (phandleAt cellPath) ≡ Some (bytes32 6)
@@ -90,9 +83,9 @@ pub record Worked : Type 0 where
 
 -- every refusal of the calls, with its place
 pub record Refusals : Type 0 where
-  pub shut-plug : answers (shut base) (in0 rate ∷ unplug 4096 3 ∷ handOver 3 ∷ takeBack 3 ∷ []) ≡ refused 56 0 ∷ refused 56 0 ∷ refused 56 0 ∷ refused 56 0 ∷ []
-  pub bad-handle : answers (shut (baseWith (bytes32 0))) (opening ∷ []) ≡ refused 16 0 ∷ []
-  pub no-symbols : answers (shut (record { boot = 0; places = ((codes "/", None), []) ∷ [] })) (opening ∷ []) ≡ refused 17 0 ∷ []
+  pub closed-calls : answers (closed base) (in0 rate ∷ unplug 4096 3 ∷ handOver 3 ∷ takeBack 3 ∷ []) ≡ refused 56 0 ∷ refused 56 0 ∷ refused 56 0 ∷ refused 56 0 ∷ []
+  pub bad-handle : answers (closed (baseWith (bytes32 0))) (opening ∷ []) ≡ refused 16 0 ∷ []
+  pub no-symbols : answers (closed (record { boot = 0; places = ((codes "/", None), []) ∷ [] })) (opening ∷ []) ≡ refused 17 0 ∷ []
   pub opened-twice : said base (opening ∷ []) ≡ granted ∷ refused 56 0 ∷ []
   pub plugs : said base (plug 4095 99 rate ∷ plug 4096 16 rate ∷ plug 4096 15 rate ∷ plug 4096 15 rate ∷ []) ≡ granted ∷ refused 55 0 ∷ refused 30 16 ∷ plugged 15 5 ∷ refused 31 15 ∷ []
   pub unplugs : said base (in0 rate ∷ unplug 4095 0 ∷ unplug 4096 1 ∷ handOver 0 ∷ unplug 4096 0 ∷ handOver 0 ∷ takeBack 0 ∷ out0 ∷ []) ≡ granted ∷ plugged 0 5 ∷ refused 55 0 ∷ refused 39 1 ∷ granted ∷ refused 39 0 ∷ refused 39 0 ∷ receipt 0 ∷ granted ∷ []
@@ -119,7 +112,7 @@ pub record No-mistakes : Type 0 where
   pub keeps-offset : look (ran base (in0 addsCell ∷ in1 (addsChild (codes "g")) ∷ out0 ∷ [])) (phandleAt (codes "/soc/g")) ≡ Some (bytes32 7)
   pub other-offset : look (ran base (in1 (addsChild (codes "g")) ∷ [])) (phandleAt (codes "/soc/g")) ≡ Some (bytes32 6)
   -- a second fragment's target is sought in the tree before the merge
-  pub chained-good : Good chained
+  pub chained-good : Fit chained
   pub before-merge : said base (in0 chained ∷ []) ≡ granted ∷ refused 33 40 ∷ []
   -- space is judged by the shares, not by the tree's present weight: the tree has room for the sixth, which sets what the others set
   pub sixth : said base (five-large ++ largeAt 5 ∷ []) ≡ granted ∷ plugged 0 5 ∷ plugged 1 5 ∷ plugged 2 5 ∷ plugged 3 5 ∷ plugged 4 5 ∷ refused 38 0 ∷ []
@@ -127,23 +120,23 @@ pub record No-mistakes : Type 0 where
 
 -- ---- the premises of the theorems hold of the worked examples
 
-abbrev pub ledgerIn : Book → Ledger
-ledgerIn (shut t) = fresh t
+abbrev pub ledgerIn : State → Ledger
+ledgerIn (closed t) = fresh t
 ledgerIn (opened g) = g
 
 abbrev pub worked-calls : List Call
 worked-calls = opening ∷ in0 addsCell ∷ in1 status ∷ out0 ∷ handOver 0 ∷ takeBack 0 ∷ out1 ∷ in1 refers ∷ []
 
 abbrev pub refers-ledger : Ledger
-refers-ledger = ledgerIn (history (shut base) (opening ∷ in0 refers ∷ []))
+refers-ledger = ledgerIn (history (closed base) (opening ∷ in0 refers ∷ []))
 
 pub record Premises : Type 0 where
   -- the base is a tree by the rules, and opening accepts it
   pub sound : Sound base
-  pub opens : call (shut base) opening ≡ (granted, opened (fresh base))
+  pub opens : call (closed base) opening ≡ (granted, opened (fresh base))
   -- every call of the histories is fit, and they leave an open stack
   pub fit : All Fit-call worked-calls
-  pub open-stack : answers (shut base) worked-calls ≡ granted ∷ plugged 0 5 ∷ plugged 1 6 ∷ refused 40 1 ∷ granted ∷ receipt 0 ∷ granted ∷ plugged 1 6 ∷ []
-  pub promised : Promised base (history (shut base) worked-calls)
+  pub open-stack : answers (closed base) worked-calls ≡ granted ∷ plugged 0 5 ∷ plugged 1 6 ∷ refused 40 1 ∷ granted ∷ receipt 0 ∷ granted ∷ plugged 1 6 ∷ []
+  pub promised : Promised base (history (closed base) worked-calls)
   -- a reference stands
   pub stands : Stands refers-ledger (record { place = (codes "/soc/dev", Some (codes "uses")); offset = 0; meant = codes "/soc/bus" })

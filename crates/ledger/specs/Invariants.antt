@@ -1,23 +1,23 @@
 -- What every history keeps of a ledger. Assumes nothing.
 use mathlib.Core.Path.{_≡_}
-use mathlib.Core.Bool.{Bool, true, false, cond}
-use mathlib.Core.List.{List, [], _∷_, _++_}
+use mathlib.Core.Bool.{true, cond}
+use mathlib.Core.List.{List, [], _∷_}
 use Prim.Native.Nat.{ℕ, _+_}
 use lib.Dec.{eqb}
 use lib.ListN.{length}
 use Rattle.std.specs.declared.option.Option.the-variants.{None, Some}
 use Rattle.std.specs.declared.result.Result.the-variants.{Ok}
-use Rattle.tree.specs.Entries.{Entry}
+use Rattle.tree.specs.Entries.{Entry, wellListed}
 use Rattle.tree.specs.Phandles.{phandleRule}
 use Rattle.tree.specs.Places.{nodeAt}
 use Rattle.tree.specs.Trees.{Tree, look, Sound}
-use Rattle.overlay_rules.specs.Checks.{check, wellListed}
+use Rattle.overlay_rules.specs.Checks.{check}
 use Rattle.overlay_rules.specs.Laws.{Unique}
 use Rattle.overlay_rules.specs.Overlays.{symbolsPath}
 use Rattle.overlay_rules.specs.Plans.{Plan}
 use Rattle.overlay_rules.specs.Queries.{run}
 use Rattle.overlay_rules.specs.Records.{notes}
-use Rattle.ledger.specs.Ledgers.{Line, planAt, merge, mergeAll, room, Socket, empty, held, shelved, Ledger, ledgerTree, socketAt, Call, opening, plug, unplug, handOver, takeBack}
+use Rattle.ledger.specs.Ledgers.{Line, planAt, merge, room, Socket, empty, held, shelved, Ledger, ledgerTree, socketAt, Call, opening, plug, unplug, handOver, takeBack}
 
 -- the entries of a good blob that passes the check: what a plug is given
 abbrev pub Fit : List Entry → Type 0

@@ -1,5 +1,4 @@
 -- The ledger: base, sockets and lines, and what each call answers and leaves by it. Assumes nothing.
-use mathlib.Core.Path.{_≡_}
 use mathlib.Core.Bool.{Bool, true, false, cond, _&&_}
 use mathlib.Core.List.{List, [], _∷_, _++_}
 use Prim.Native.Nat.{ℕ, _+_}
@@ -51,13 +50,29 @@ unfoldable pub sum : {A : Type 0} → (A → ℕ) → List A → ℕ
 sum f [] = 0
 sum f (x ∷ xs) = f x + sum f xs
 
+-- the counts and the weight of a tree, and the size of the record
+abbrev pub maxNodes : ℕ
+maxNodes = 256
+
+abbrev pub maxProperties : ℕ
+maxProperties = 1024
+
+abbrev pub maxWeight : ℕ
+maxWeight = 24576
+
+abbrev pub maxEntries : ℕ
+maxEntries = 512
+
+abbrev pub maxSaved : ℕ
+maxSaved = 32768
+
 -- the tree at opening plus the shares of the lines is within the counts and the weight of a tree, and the record within its own
 unfoldable pub room : Tree → List Line → Bool
 room base ls =
-    (leb (nodes (base .places) + sum (λ l. l .share .nodes) ls) 256
-    && (leb (properties (base .places) + sum (λ l. l .share .properties) ls) 1024
-    && leb (weight (base .places) + sum (λ l. l .share .weight) ls) 24576))
-    && (leb (sum (λ l. length (l .entries)) ls) 512 && leb (sum (λ l. savedBytes (l .entries)) ls) 32768)
+    (leb (nodes (base .places) + sum (λ l. l .share .nodes) ls) maxNodes
+    && (leb (properties (base .places) + sum (λ l. l .share .properties) ls) maxProperties
+    && leb (weight (base .places) + sum (λ l. l .share .weight) ls) maxWeight))
+    && (leb (sum (λ l. length (l .entries)) ls) maxEntries && leb (sum (λ l. savedBytes (l .entries)) ls) maxSaved)
 
 -- ---- the ledger
 
@@ -139,12 +154,15 @@ turned g k s ls = record { base = g .base; sockets = set (g .sockets) k s; lines
 abbrev pub line : ℕ → List Entry → ℕ → Tree → Plan → Line
 line k es d t p = record { socket = k; overlay = es; offset = d; share = p .share; entries = notes p t }
 
--- 32 to 37 by the plan, then 38; else one more line
+-- 38 where there is no room; else one more line
+abbrev pub addBy : Ledger → ℕ → ℕ → Line → Bool → Answer × Ledger
+addBy g k d l true = (plugged k d, turned g k held (g .lines ++ l ∷ []))
+addBy g k d l false = no g 38 0
+
+-- 32 to 37 by the plan
 abbrev pub plugBy : Ledger → ℕ → List Entry → ℕ → Tree → Result Plan Refusal → Answer × Ledger
 plugBy g k es d t (Err e) = no g (e .0) (e .1)
-plugBy g k es d t (Ok p) =
-    let ls = g .lines ++ line k es d t p ∷ [] in
-    cond (room (g .base) ls) (plugged k d, turned g k held ls) (no g 38 0)
+plugBy g k es d t (Ok p) = let l = line k es d t p in addBy g k d l (room (g .base) (g .lines ++ l ∷ []))
 
 -- at the largest phandle of the tree
 abbrev pub plugIn : Ledger → ℕ → List Entry → Tree → Answer × Ledger
@@ -175,39 +193,39 @@ step g (takeBack k) =
 
 -- ---- a stack is closed over a store's tree, or open with a ledger
 
-pub data Book : Type 0 where
-  shut : Tree → Book
-  opened : Ledger → Book
+pub data State : Type 0 where
+  closed : Tree → State
+  opened : Ledger → State
 
 -- 16 and 17, both at place 0
-abbrev pub openBy : Tree → Bool → Option (List ℕ) → Answer × Book
-openBy t false w = (refused 16 0, shut t)
-openBy t true None = (refused 17 0, shut t)
+abbrev pub openBy : Tree → Bool → Option (List ℕ) → Answer × State
+openBy t false w = (refused 16 0, closed t)
+openBy t true None = (refused 17 0, closed t)
 openBy t true (Some v) = (granted, opened (fresh t))
 
-abbrev pub stepped : Answer × Ledger → Answer × Book
+abbrev pub stepped : Answer × Ledger → Answer × State
 stepped a = (a .0, opened (a .1))
 
-abbrev pub shutCall : Tree → Call → Answer × Book
-shutCall t opening = openBy t (phandleRule t) (look t (nodeAt symbolsPath))
-shutCall t (plug n k es) = (refused 56 0, shut t)
-shutCall t (unplug n k) = (refused 56 0, shut t)
-shutCall t (handOver k) = (refused 56 0, shut t)
-shutCall t (takeBack k) = (refused 56 0, shut t)
+abbrev pub closedCall : Tree → Call → Answer × State
+closedCall t opening = openBy t (phandleRule t) (look t (nodeAt symbolsPath))
+closedCall t (plug n k es) = (refused 56 0, closed t)
+closedCall t (unplug n k) = (refused 56 0, closed t)
+closedCall t (handOver k) = (refused 56 0, closed t)
+closedCall t (takeBack k) = (refused 56 0, closed t)
 
-abbrev pub call : Book → Call → Answer × Book
-call (shut t) c = shutCall t c
+abbrev pub call : State → Call → Answer × State
+call (closed t) c = closedCall t c
 call (opened g) c = stepped (step g c)
 
--- the book after a history of calls, and the answers to them
-unfoldable pub history : Book → List Call → Book
+-- the state after a history of calls, and the answers to them
+unfoldable pub history : State → List Call → State
 history b [] = b
 history b (c ∷ cs) = history (call b c .1) cs
 
-unfoldable pub answers : Book → List Call → List Answer
+unfoldable pub answers : State → List Call → List Answer
 answers b [] = []
 answers b (c ∷ cs) = call b c .0 ∷ answers (call b c .1) cs
 
-abbrev pub bookTree : Book → Tree
-bookTree (shut t) = t
-bookTree (opened g) = ledgerTree g
+abbrev pub stateTree : State → Tree
+stateTree (closed t) = t
+stateTree (opened g) = ledgerTree g

@@ -1,4 +1,5 @@
 pub mod Ledgers
 pub mod Invariants
 pub mod Promises
+pub mod Logs
 pub mod Examples

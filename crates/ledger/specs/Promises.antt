@@ -1,11 +1,10 @@
 -- The promise over every history, in words of the subject. Assumes nothing.
 use mathlib.Core.Path.{_≡_}
-use mathlib.Core.Bool.{Bool, true, false}
+use mathlib.Core.Bool.{true, false}
 use mathlib.Core.Logic.{_⊎_}
 use mathlib.Core.List.{List, [], _∷_, _++_}
-use Prim.Native.Nat.{ℕ, _+_, _≤_, _<_}
-use lib.ListN.{length, drop}
-use Rattle.std.specs.declared.option.Option.{Option}
+use Prim.Native.Nat.{ℕ, _≤_, _<_}
+use lib.ListN.{drop}
 use Rattle.std.specs.declared.option.Option.the-variants.{None, Some}
 use Rattle.std.specs.declared.result.Result.the-variants.{Ok}
 use Rattle.std.specs.Finite.{All}
@@ -19,7 +18,7 @@ use Rattle.overlay_rules.specs.Overlays.{phandleAt, symbolsPath}
 use Rattle.overlay_rules.specs.Plans.{Plan, Reference, apply}
 use Rattle.overlay_rules.specs.Queries.{run}
 use Rattle.overlay_rules.specs.Records.{Note, created, notes, written, wrote, restore}
-use Rattle.ledger.specs.Ledgers.{Line, line, planAt, merge, mergeAll, room, held, Ledger, ledgerTree, fresh, socketAt, Call, plug, unplug, Answer, plugged, granted, refused, step, Book, shut, opened, call, history}
+use Rattle.ledger.specs.Ledgers.{Line, line, planAt, mergeAll, room, held, Ledger, ledgerTree, fresh, socketAt, Call, plug, unplug, plugged, granted, refused, step, State, closed, opened, history}
 use Rattle.ledger.specs.Invariants.{Fit, Fit-call, Kept}
 
 -- ---- the tree is explained by the lines
@@ -43,6 +42,16 @@ Touches y x = (n : Note) × (m : Note) × In n (y .entries) × In m (x .entries)
 abbrev pub None-touches : List Line → Line → Type 0
 None-touches ys x = (y : Line) → In y ys → Touches y x → ⊥
 
+-- the earliest of the lines that touches x, at a socket
+pub record Earliest (ls : List Line) (x : Line) (j : ℕ) : Type 0 where
+  pub before : List Line
+  pub line : Line
+  pub later : List Line
+  pub lines : ls ≡ before ++ (line ∷ later)
+  pub none : None-touches before x
+  pub touches : Touches line x
+  pub socket : line .socket ≡ j
+
 -- the line of a held socket, and what an unplug of it answers
 pub record Unplugs (g : Ledger) (n k : ℕ) : Type 0 where
   pub before : List Line
@@ -52,8 +61,10 @@ pub record Unplugs (g : Ledger) (n k : ℕ) : Type 0 where
   pub socket : mine .socket ≡ k
   -- none touches: granted
   pub free : None-touches later mine → step g (unplug n k) .0 ≡ granted
+  pub free-only : step g (unplug n k) .0 ≡ granted → None-touches later mine
   -- one does: refused, at the socket of the earliest
   pub blocked : (ys : List Line) (y : Line) (zs : List Line) → later ≡ ys ++ (y ∷ zs) → None-touches ys mine → Touches y mine → step g (unplug n k) .0 ≡ refused 40 (y .socket)
+  pub blocked-only : (c j : ℕ) → step g (unplug n k) .0 ≡ refused c j → (c ≡ 40) × Earliest later mine j
 
 -- ---- standing references
 
@@ -88,13 +99,13 @@ pub record Promise (g : Ledger) : Type 0 where
   pub refers : (r : Reference) → Stands g r → Refers (ledgerTree g) r
 
 -- a stack that is still closed has left the tree as it was
-abbrev pub Promised : Tree → Book → Type 0
-Promised t (shut u) = u ≡ t
+abbrev pub Promised : Tree → State → Type 0
+Promised t (closed u) = u ≡ t
 Promised t (opened g) = (g .base ≡ t) × Promise g
 
 -- whatever the calls and their arguments, in whatever order
 abbrev pub Every-history : Type 0
-Every-history = (t : Tree) (calls : List Call) → Sound t → All Fit-call calls → Promised t (history (shut t) calls)
+Every-history = (t : Tree) (calls : List Call) → Sound t → All Fit-call calls → Promised t (history (closed t) calls)
 
 -- ---- striking a line that no later one touches
 

@@ -1,6 +1,7 @@
 // The ledger of a stack and the promise over every history, as definitions in specs/. This code only names the theorems, so that
 // the check demands their proofs.
 ghost use Rattle.ledger.specs.Examples.{Worked, Refusals, No-mistakes, Premises};
+ghost use Rattle.ledger.specs.Logs.{Log-laws};
 ghost use Rattle.ledger.specs.Promises.{Every-history, Invariant, Striking, Plugging, Answered-offset};
 
 // The worked examples, computed.
@@ -62,6 +63,13 @@ pub fn mistakes_are_impossible() -> u8
 // The worked examples meet the premises of the theorems, so that none is empty.
 pub fn premises_hold() -> u8
     ensures { λ _. ⌜ Premises ⌝ }
+{
+    0
+}
+
+// The entries of all lines in one list, each with its socket: restoring, striking and the earliest blocker by one pass over it.
+pub fn log_tells_lines() -> u8
+    ensures { λ _. ⌜ Log-laws ⌝ }
 {
     0
 }

@@ -1,7 +1,7 @@
 -- What a query answers and asks, at one tree and at two that agree where it asked. Assumes nothing.
 use mathlib.Core.Path.{_≡_, refl, sym, ap, subst, _∙_}
-use mathlib.Core.List.{List, [], _∷_, _++_, map, append-assoc}
-use mathlib.Core.Logic.{_⊎_, inl, inr, ⊎-elim}
+use mathlib.Core.List.{List, [], _∷_, _++_, append-assoc}
+use mathlib.Core.Logic.{inl, inr, ⊎-elim}
 use Prim.Native.Nat.{ℕ}
 use native.Mathlib.Omega.{arith}
 use Rattle.std.specs.declared.option.Option.{Option}
@@ -9,12 +9,10 @@ use Rattle.std.specs.declared.option.Option.the-variants.{None, Some}
 use Rattle.std.specs.declared.result.Result.{Result}
 use Rattle.std.specs.declared.result.Result.the-variants.{Ok, Err}
 use Rattle.std.specs.Finite.{All}
-use Rattle.tree.specs.Numbers.{be32}
 use Rattle.tree.specs.Phandles.{holder}
 use Rattle.tree.specs.Places.{Bytes, Place}
 use Rattle.tree.specs.Trees.{Tree, look}
-use Rattle.tree.proofs.Maps.{some-none, some-one}
-use Rattle.overlay_rules.specs.Overlays.{phandleAt}
+use Rattle.tree.proofs.Maps.{some-none}
 use Rattle.overlay_rules.specs.Queries.{Query, done, refuse, ask, seek, _>>=_, run, sought, asked, need, stopAt, forEach}
 use Rattle.overlay_rules.specs.Laws.{Rising, In, Unique, Fewer, Same-at}
 use Rattle.overlay_rules.proofs.Lists.{all-left, all-right, in-cases, in-left, in-right}

@@ -3,10 +3,10 @@ use mathlib.Core.Path.{_≡_, refl, sym, ap, subst, _∙_}
 use mathlib.Core.Bool.{Bool, true, false, cond, not, _&&_, _||_, true≢false}
 use mathlib.Core.List.{List, [], _∷_, _++_, map}
 use mathlib.Core.Logic.{_⊎_, inl, inr, ⊎-elim}
-use Prim.Native.Nat.{ℕ, _+_, _%_, _<_, _≤_}
+use Prim.Native.Nat.{ℕ, _+_, _≤_}
 use native.Mathlib.Omega.{arith}
 use lib.Chars.{codes}
-use lib.Dec.{eqb, ltb, leb}
+use lib.Dec.{eqb, leb}
 use lib.ListN.{length}
 use Rattle.std.specs.declared.option.Option.{Option}
 use Rattle.std.specs.declared.option.Option.the-variants.{None, Some}
@@ -14,18 +14,17 @@ use Rattle.std.specs.Options.{isSome}
 use Rattle.std.specs.Finite.{All}
 use Rattle.std.specs.shelf.Text.{sameBytes}
 use Rattle.std.proofs.shelf.Equals.{sameBytes-decides}
-use Rattle.std.proofs.shelf.Tests.{or-parts, or-cases, and-parts, and-cases, and-from, eqb-true, leb-true, ltb-false, not-false, not-true, cond-true, cond-false}
-use Rattle.names.specs.Names.{each}
-use Rattle.tree.specs.Entries.{Entry}
+use Rattle.std.proofs.shelf.Tests.{or-parts, or-cases, and-parts, and-cases, and-from, eqb-true, leb-true, ltb-false, not-false, cond-false}
+use Rattle.tree.specs.Entries.{Entry, some}
 use Rattle.tree.specs.Numbers.{be32}
 use Rattle.tree.specs.Phandles.{isPhandle}
 use Rattle.tree.specs.Places.{Bytes, Place, propertyAt}
 use Rattle.tree.proofs.Maps.{some-none, some-one}
-use Rattle.overlay_rules.specs.Texts.{some, pick, joined, split, behind}
-use Rattle.overlay_rules.specs.Overlays.{fixupsPath, localsPath, targetAt, targetPathAt, valueAt, isListed, fragmentNodes, inBody, bodyEntries, Spot, spotOf, strings, spots, numbers, localSpots, Label, labelOf, labelsOf, localsBehind, localsOf, Cell, cellFor, cellsOf}
-use Rattle.overlay_rules.specs.Checks.{firstFault, handleIn, bodyHandles, goodTarget, badFragment, holdsCell, bodyValue, goodSpot, goodStrings, badFixup, goodCells, badLocalAt, badLocal, namedCells, shares, overlap, cellFault}
+use Rattle.overlay_rules.specs.Texts.{pick, joined, split, behind}
+use Rattle.overlay_rules.specs.Overlays.{fixupsPath, localsPath, targetAt, targetPathAt, valueAt, fragmentNodes, inBody, bodyEntries, Spot, spotOf, strings, spots, numbers, Label, labelOf, labelsOf, localsBehind, localsOf, Cell, cellFor, cellsOf}
+use Rattle.overlay_rules.specs.Checks.{bodyHandles, goodTarget, badFragment, holdsCell, bodyValue, goodSpot, goodStrings, badFixup, goodCells, badLocalAt, badLocal, namedCells, shares, overlap, cellFault}
 use Rattle.overlay_rules.specs.Laws.{In}
-use Rattle.overlay_rules.proofs.Lists.{all-at, all-from, in-cases, in-left, in-right, in-map-from, in-joined-from, in-pick-from, some-false, some-true, some-in, each-all}
+use Rattle.overlay_rules.proofs.Lists.{all-at, in-cases, in-left, in-right, in-map-from, in-joined-from, in-pick-from, some-false, some-true, each-all}
 use Rattle.overlay_rules.proofs.Checking.{Passed, no-fault}
 use Rattle.overlay_rules.proofs.Filling.{Apart}
 

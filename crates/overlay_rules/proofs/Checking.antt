@@ -1,9 +1,9 @@
 -- What the check of an overlay establishes. Assumes nothing.
 use mathlib.Core.Path.{_≡_, refl, sym, ap, subst, _∙_}
 use mathlib.Core.Bool.{Bool, true, false, cond, not, _&&_, _||_, true≢false}
-use mathlib.Core.List.{List, [], _∷_, _++_, map}
-use mathlib.Core.Logic.{_⊎_, inl, inr, ⊎-elim}
-use Prim.Native.Nat.{ℕ, _+_, _≤_}
+use mathlib.Core.List.{List, [], _∷_}
+use mathlib.Core.Logic.{inl, inr}
+use Prim.Native.Nat.{ℕ}
 use lib.Chars.{codes}
 use lib.Dec.{eqb}
 use lib.ListN.{length}
@@ -12,18 +12,17 @@ use Rattle.std.specs.declared.option.Option.the-variants.{None, Some}
 use Rattle.std.specs.Finite.{All}
 use Rattle.std.specs.shelf.Text.{sameBytes}
 use Rattle.std.proofs.shelf.Equals.{sameBytes-decides}
-use Rattle.std.proofs.shelf.Tests.{or-parts, and-parts, eq-eqb, not-false, not-true}
-use Rattle.tree.specs.Entries.{Entry}
+use Rattle.std.proofs.shelf.Tests.{or-parts, eq-eqb, not-false}
+use Rattle.tree.specs.Entries.{Entry, some}
 use Rattle.tree.specs.Numbers.{be32}
 use Rattle.tree.specs.Phandles.{isPhandle, validHandle}
 use Rattle.tree.specs.Places.{Bytes, Place}
-use Rattle.tree.proofs.Maps.{some-none, some-one}
-use Rattle.overlay_rules.specs.Texts.{some, pick, zeroEnded}
-use Rattle.overlay_rules.specs.Overlays.{symbolsPath, fragmentNodes, inBody, bodyEntries, cellsAt, symbolBy, symbolOf, Item, Symbol, Overlay, overlayOf}
+use Rattle.tree.proofs.Maps.{some-none}
+use Rattle.overlay_rules.specs.Texts.{zeroEnded}
+use Rattle.overlay_rules.specs.Overlays.{symbolsPath, fragmentNodes, bodyEntries, cellsAt, symbolBy, symbolOf, Item, Symbol, overlayOf}
 use Rattle.overlay_rules.specs.Checks.{Refusal, firstFault, handleIn, bodyHandles, badHandle, seenWith, handleFault, badFragment, badFixup, badLocal, cellFault, bodyNode, badSymbol, refusedAt, badCount, check}
 use Rattle.overlay_rules.specs.Laws.{In}
-use Rattle.overlay_rules.proofs.Lists.{all-at, all-from, in-map, in-map-from, in-pick, in-pick-from, some-in, some-true}
-use Rattle.overlay_rules.proofs.Looks.{is-phandle}
+use Rattle.overlay_rules.proofs.Lists.{all-at, in-map-from, in-pick-from, some-in}
 
 refused-none : (c : ℕ) (o : Option ℕ) (rest : Option Refusal) → refusedAt c o rest ≡ None → (o ≡ None) × (rest ≡ None)
 refused-none c None rest h = (refl, h)

@@ -1,14 +1,14 @@
 -- The worked examples, each computed. Assumes nothing.
-use mathlib.Core.Path.{_≡_, refl}
+use mathlib.Core.Path.{refl}
 use Rattle.names.specs.Names.{nodeByte, propertyByte, propertyName, nodeName}
 use Rattle.names.specs.Paths.{parts, pathText, stem, behindLast, parent}
+use Rattle.tree.specs.Entries.{listedFrom}
 use Rattle.tree.specs.Numbers.{be32}
 use Rattle.overlay_rules.specs.Texts.{zeroEnded, split, digits, decimal, behind}
 use Rattle.overlay_rules.specs.Overlays.{valueAt, fragmentNodes, bodyEntries, strings, spots, numbersFrom, labelsOf, cellsOf, targetOf, overlayOf}
-use Rattle.overlay_rules.specs.Checks.{listedFrom, bodyHandles, handleFault, cellFault, check}
+use Rattle.overlay_rules.specs.Checks.{bodyHandles, handleFault, cellFault, check}
 use Rattle.overlay_rules.specs.Plans.{labelled, known, nodeThere, numberThere, imageOf, filled, lowest, twice, again, readSymbols, planned, allowed, plan, apply}
 use Rattle.overlay_rules.specs.Queries.{_>>=_, run, asked, forEach}
-use Rattle.overlay_rules.specs.Records.{distinct, notes, restore, savedBytes}
 use Rattle.overlay_rules.specs.PlanExamples.{Plan-examples}
 use Rattle.tree.specs.Maps.{find, upd, total}
 use Rattle.tree.specs.Trees.{look, change}

@@ -5,7 +5,6 @@ use mathlib.Core.Logic.{_⊎_, inl, inr, ⊎-elim}
 use Prim.Native.Nat.{ℕ, _+_, _-_, _*_, _/_, _%_, _<_, _≤_}
 use native.Mathlib.Omega.{arith}
 use lib.ListN.{length, take, drop, getD}
-use Rattle.std.specs.declared.option.Option.{Option}
 use Rattle.std.specs.Finite.{All}
 use Rattle.std.proofs.shelf.Lists.{length-append, length-take-le, length-drop, getD-append-left, getD-append-right, getD-take, getD-drop, getD-append-add}
 use Rattle.tree.specs.Numbers.{be32, bytes32}

@@ -1,72 +1,52 @@
 -- A plan's writes grow the tree: each hangs on what is there by then, and they count no more than the share. Assumes nothing.
 use mathlib.Core.Path.{_≡_, refl, sym, ap, subst, _∙_}
-use mathlib.Core.Bool.{Bool, true, false, cond, not, _&&_, _||_, true≢false}
+use mathlib.Core.Bool.{Bool, true, false, cond, not, true≢false}
 use mathlib.Core.List.{List, [], _∷_, _++_, map}
 use mathlib.Core.Logic.{_⊎_, inl, inr, ⊎-elim}
 use Prim.Native.Nat.{ℕ, _+_, _≤_, _<_}
 use native.Mathlib.Omega.{arith}
 use lib.Chars.{codes}
-use lib.Dec.{eqb, leb}
+use lib.Dec.{leb}
 use lib.ListN.{length}
 use Rattle.std.specs.declared.option.Option.{Option}
 use Rattle.std.specs.declared.option.Option.the-variants.{None, Some}
-use Rattle.std.specs.declared.result.Result.the-variants.{Ok}
 use Rattle.std.specs.Options.{isSome}
 use Rattle.std.specs.Finite.{All}
 use Rattle.std.specs.shelf.Text.{sameBytes}
 use Rattle.std.proofs.shelf.Equals.{sameBytes-decides}
-use Rattle.std.proofs.shelf.Lists.{append-nil, append-assoc, length-append, nil-from-length}
+use Rattle.std.proofs.shelf.Lists.{append-assoc, length-append, nil-from-length}
 use Rattle.std.proofs.shelf.Tests.{and-parts, and-from, eqb-true, leb-true, le-leb, cond-true, cond-false, ne-eqb, not-true}
-use Rattle.names.specs.Names.{nodeName, propertyName}
 use Rattle.names.specs.Paths.{root, pathText, under, parent}
-use Rattle.tree.specs.Entries.{Entry, listed}
+use Rattle.names.proofs.PathLaws.{parent-of}
+use Rattle.tree.specs.Entries.{Entry, listed, bare, listedFrom, samePlace, some, wellListed}
 use Rattle.tree.specs.Maps.{total}
 use Rattle.tree.specs.Numbers.{be32, bytes32}
 use Rattle.tree.specs.Phandles.{isPhandle}
-use Rattle.tree.specs.Places.{Bytes, Place, nodeAt, propertyAt}
-use Rattle.tree.specs.Trees.{Places, Tree, look, change, shortPlace, namedPlace, upPlace}
-use Rattle.tree.proofs.Maps.{some-none, some-one}
-use Rattle.overlay_rules.specs.Texts.{some, given, pick, slashed, behind}
-use Rattle.overlay_rules.specs.Overlays.{symbolsPath, bodyPath, samePlace, valueAt, isListed, special, isFragmentPath, fragmentOf, fragmentNodes, inBody, bodyEntries, targetOf, Fragment, Item, Symbol, Overlay, overlayOf}
-use Rattle.overlay_rules.specs.Checks.{bare, listedFrom, wellListed}
-use Rattle.overlay_rules.specs.Queries.{run, forEach}
-use Rattle.overlay_rules.specs.Plans.{Known, Located, located, imageOf, finalBytes, filled, imageEntry, symbolEntry, images, Touch, there, put, ifThere, touch, putIn, Share, shareOf, belowTop, shared, Plan, planned, plan, apply}
+use Rattle.tree.specs.Places.{Bytes, Place, nodeAt}
+use Rattle.tree.specs.Trees.{Tree, look, change, namedPlace, upPlace}
+use Rattle.tree.proofs.Listed.{same-only}
+use Rattle.tree.proofs.Maps.{some-none}
+use Rattle.overlay_rules.specs.Texts.{given, pick, slashed, behind}
+use Rattle.overlay_rules.specs.Overlays.{symbolsPath, bodyPath, valueAt, isListed, isFragmentPath, fragmentOf, fragmentNodes, inBody, bodyEntries, targetOf, Fragment, Item, Symbol, overlayOf}
+use Rattle.overlay_rules.specs.Plans.{Located, located, imageOf, finalBytes, filled, imageEntry, symbolEntry, images, Touch, there, ifThere, putIn, shareOf, belowTop, shared, Plan, planned, apply}
+use Rattle.overlay_rules.specs.Steps.{touchAt, putsIn}
 use Rattle.overlay_rules.specs.Laws.{Rising, In}
-use Rattle.overlay_rules.proofs.Lists.{all-at, all-from, in-cases, in-left, in-right, in-map, in-map-from, in-pick, in-pick-from, some-true, some-in}
-use Rattle.overlay_rules.proofs.Looks.{place-from, same-place, look-same, rises-change}
-use Rattle.overlay_rules.proofs.Asking.{ok-one, gave, gave-from, gave-to, run-bind}
+use Rattle.overlay_rules.proofs.Lists.{all-at, all-from, in-left, in-map, in-map-from, in-pick, in-pick-from, some-true, some-in}
+use Rattle.overlay_rules.proofs.Looks.{look-same, rises-change}
+use Rattle.overlay_rules.proofs.Asking.{ok-one, gave, gave-from, gave-to}
 use Rattle.overlay_rules.proofs.Journals.{rises-apply}
-use Rattle.overlay_rules.proofs.Planning.{Allowed, Located-at, located-is, touchAll, Planned}
+use Rattle.overlay_rules.proofs.Planning.{located-is, Planned}
 use Rattle.overlay_rules.proofs.Touching.{writes-is, put-or-there}
-use Rattle.overlay_rules.proofs.Checking.{Passed, itemOf, item-from, Symbol-from, symbol-from}
-use Rattle.overlay_rules.proofs.Cells.{cell-good, Within}
+use Rattle.overlay_rules.proofs.Checking.{Passed, itemOf, item-from, symbol-from}
+use Rattle.overlay_rules.proofs.Cells.{cell-good}
 use Rattle.overlay_rules.proofs.Filling.{length-filled}
-use Rattle.overlay_rules.proofs.Listing.{Good-entry, Next, listed-next, Well, well, all-good, value-at}
+use Rattle.overlay_rules.proofs.Listing.{Good-entry, Next, listed-next, well, all-good}
 use Rattle.overlay_rules.proofs.References.{body-listed, item-value, item-cells}
-use Rattle.overlay_rules.proofs.Pathing.{behind-is, behind-from, last-of, Last, parent-is, parent-under, path-under, Match, match, slashes, slashes-join, child-slashes}
-use Rattle.overlay_rules.proofs.Shapes.{Shape, Fits-in, Grows, grown, grows-join, node-stays, node-put, shape-put, cost-join}
+use Rattle.overlay_rules.proofs.Pathing.{behind-is, behind-from, last-of, parent-under, path-under, Match, match, slashes, slashes-join, child-slashes}
+use Rattle.overlay_rules.proofs.Stepping.{run-touches}
+use Rattle.overlay_rules.proofs.Shapes.{Shape, Fits-in, Grows, grows-join, node-stays, node-put, cost-join}
 
 -- ---- touches, as a function of the tree
-
-abbrev touchOf : Tree → Entry → Place → Touch
-touchOf t e (p, None) = ifThere e (look t (e .place))
-touchOf t e (p, Some n) = put e
-
-touch-run : (t : Tree) (e : Entry) (k : Place) (x : Touch) → run t (touch e k) ≡ Ok x → touchOf t e k ≡ x
-unfolding run
-touch-run t e (p, None) x h = ok-one h
-touch-run t e (p, Some n) x h = ok-one h
-
-pub touch-all : (t : Tree) (es : List Entry) (ts : List Touch) → run t (touchAll es) ≡ Ok ts → map (λ e. touchOf t e (e .place)) es ≡ ts
-unfolding forEach run
-touch-all t [] ts h = ok-one h
-touch-all t (e ∷ es) ts h =
-    let a = run-bind t (touch e (e .place)) _ ts h in
-    let b = run-bind t (touchAll es) _ ts (a .2) in
-    (λ i. touch-run t e (e .place) (a .0) (a .1) i ∷ touch-all t es (b .0) (b .1) i) ∙ ok-one (b .2)
-
-abbrev puts : Tree → List Entry → List Entry
-puts t es = pick putIn (map (λ e. touchOf t e (e .place)) es)
 
 pick-join : (f : Touch → Option Entry) (xs ys : List Touch) → pick f (xs ++ ys) ≡ pick f xs ++ pick f ys
 pick-join f [] ys = refl
@@ -80,8 +60,8 @@ map-join : {A B : Type 0} (f : A → B) (xs ys : List A) → map f (xs ++ ys) �
 map-join f [] ys = refl
 map-join f (x ∷ xs) ys = ap (λ z. f x ∷ z) (map-join f xs ys)
 
-puts-join : (t : Tree) (xs ys : List Entry) → puts t (xs ++ ys) ≡ puts t xs ++ puts t ys
-puts-join t xs ys = ap (pick putIn) (map-join (λ e. touchOf t e (e .place)) xs ys) ∙ pick-join putIn (map (λ e. touchOf t e (e .place)) xs) (map (λ e. touchOf t e (e .place)) ys)
+puts-join : (t : Tree) (xs ys : List Entry) → putsIn t (xs ++ ys) ≡ putsIn t xs ++ putsIn t ys
+puts-join t xs ys = ap (pick putIn) (map-join (λ e. touchAt t e (e .place)) xs ys) ∙ pick-join putIn (map (λ e. touchAt t e (e .place)) xs) (map (λ e. touchAt t e (e .place)) ys)
 
 -- one entry, put or read
 record Put (t : Tree) (e : Entry) (o : Option Entry) : Type 0 where
@@ -94,7 +74,7 @@ record Read (t : Tree) (e : Entry) (o : Option Entry) : Type 0 where
   value : Bytes
   there : look t (e .place) ≡ Some value
 
-put-read : (t : Tree) (e : Entry) (k : Place) → e .place ≡ k → Put t e (putIn (touchOf t e k)) ⊎ Read t e (putIn (touchOf t e k))
+put-read : (t : Tree) (e : Entry) (k : Place) → e .place ≡ k → Put t e (putIn (touchAt t e k)) ⊎ Read t e (putIn (touchAt t e k))
 put-read t e (p, None) q = go (look t (e .place)) refl
   where
     go : (o : Option Bytes) → look t (e .place) ≡ o → Put t e (putIn (ifThere e o)) ⊎ Read t e (putIn (ifThere e o))
@@ -108,7 +88,7 @@ value-some [] k v h = absurd (some-none v (sym h))
 value-some (x ∷ es) k v h = go (samePlace (x .place) k) refl (value-some es k v) h
   where
     go : (b : Bool) → samePlace (x .place) k ≡ b → (valueAt es k ≡ Some v → (e : Entry) × In e es × (e .place ≡ k)) → cond b (Some (x .value)) (valueAt es k) ≡ Some v → (e : Entry) × In e (x ∷ es) × (e .place ≡ k)
-    go true e ih h = (x, inl refl, place-from (x .place) k e)
+    go true e ih h = (x, inl refl, same-only (x .place) k e)
     go false e ih h = let r = ih h in (r .0, inr (r .1), r .2)
 
 is-some : {A : Type 0} (o : Option A) → isSome o ≡ true → (a : A) × (o ≡ Some a)
@@ -228,7 +208,7 @@ module _ (t : Tree) (es : List Entry) (d : ℕ) (p : Plan) (w : wellListed es �
       let behind-ok : behind (bodyPath (f .0 .place .0)) (l .body ++ L .pre) ≡ Some (L .pre) = ap (λ z. behind z (l .body ++ L .pre)) (sym (f .2)) ∙ behind-from (l .body) (L .pre) pre-ok in
       record {
         up = l .body ++ L .pre;
-        is = ap parent eq ∙ parent-is (l .body ++ L .pre) (L .name) (L .free) ∙ cond-false _ _ _ (ne-eqb _ 0 ne);
+        is = ap parent eq ∙ parent-of (l .body ++ L .pre) (L .name) (L .free) ∙ cond-false _ _ _ (ne-eqb _ 0 ne);
         body = some-in (λ f. isSome (behind (bodyPath (f .place .0)) (l .body ++ L .pre))) (f .0) (fragmentNodes es) (f .1) (ap isSome behind-ok);
         image = ap parent (M .image ∙ ap (under (l .to)) er) ∙ parent-under (l .to) (L .pre) (L .name) (L .free) (sh .named (nodeAt (l .to)) [] (f .3)) ∙ sym (M .above (L .pre) (L .name) er);
       }
@@ -265,7 +245,7 @@ module _ (t : Tree) (es : List Entry) (d : ℕ) (p : Plan) (w : wellListed es �
           let s = leb-true (length (e .value)) 4096 (and-parts (leb (length (e .place .0)) 255) _ (good e (body-listed es e i .0) .short) .1) in
           omega (arith, l, s)
 
-  bare-value : (e : Entry) → In e es → (k : Place) → e .place ≡ k → k .1 ≡ None → finalBytes (m .env) d (itemOf es e) k ≡ []
+  pub bare-value : (e : Entry) → In e es → (k : Place) → e .place ≡ k → k .1 ≡ None → finalBytes (m .env) d (itemOf es e) k ≡ []
   bare-value e i (q, None) h n = nil-from-length (e .value) (eqb-true _ _ (ap (λ z. bare z (e .value)) (sym h) ∙ good e i .bare))
   bare-value e i (q, Some x) h n = absurd (some-none x n)
 
@@ -319,9 +299,9 @@ module _ (t : Tree) (es : List Entry) (d : ℕ) (p : Plan) (w : wellListed es �
   up-there e seen s n h (q, Some x) ek b a = h q (subst (λ z. In z seen) (ap upPlace ek) (n .up)) b
 
   abbrev Rest : Entry → List Entry → List Place → Type 0
-  Rest e xs seen = (u : Tree) → Rising u → Sub u → Seen u (e .place ∷ seen) → Short (puts t (imagesOf (picked xs))) → Grows u (puts t (imagesOf (picked xs)))
+  Rest e xs seen = (u : Tree) → Rising u → Sub u → Seen u (e .place ∷ seen) → Short (putsIn t (imagesOf (picked xs))) → Grows u (putsIn t (imagesOf (picked xs)))
 
-  grow-items : (xs : List Entry) (seen : List Place) (s : Tree) → listedFrom seen xs ≡ true → ((e : Entry) → In e xs → In e es) → Rising s → Sub s → Seen s seen → Short (puts t (imagesOf (picked xs))) → Grows s (puts t (imagesOf (picked xs)))
+  grow-items : (xs : List Entry) (seen : List Place) (s : Tree) → listedFrom seen xs ≡ true → ((e : Entry) → In e xs → In e es) → Rising s → Sub s → Seen s seen → Short (putsIn t (imagesOf (picked xs))) → Grows s (putsIn t (imagesOf (picked xs)))
   unfolding Grows
   grow-items [] seen s h inc r sub seen-ok sh = tt
   grow-items (e ∷ xs) seen s h inc r sub seen-ok short =
@@ -338,10 +318,10 @@ module _ (t : Tree) (es : List Entry) (d : ℕ) (p : Plan) (w : wellListed es �
           ap (λ z. look u (nodeAt (imageOf (m .ls) (z .0)))) q ∙ own2
       seen-more u su se own k (inr i) b = se k i b
 
-      by-touch : inBody (fragmentNodes es) (e .place .0) ≡ true → Next seen e → Rest e xs seen → (o : Option Entry) → Put t (imageOfEntry e) o ⊎ Read t (imageOfEntry e) o → Short (given o (puts t (imagesOf (picked xs)))) → Grows s (given o (puts t (imagesOf (picked xs))))
+      by-touch : inBody (fragmentNodes es) (e .place .0) ≡ true → Next seen e → Rest e xs seen → (o : Option Entry) → Put t (imageOfEntry e) o ⊎ Read t (imageOfEntry e) o → Short (given o (putsIn t (imagesOf (picked xs)))) → Grows s (given o (putsIn t (imagesOf (picked xs))))
       by-touch b n ih o (inl u) ss =
           let i = picked-in e in-es b in
-          let ss2 = subst (λ z. Short (given z (puts t (imagesOf (picked xs))))) (u .is) ss in
+          let ss2 = subst (λ z. Short (given z (putsIn t (imagesOf (picked xs))))) (u .is) ss in
           let up = up-there e seen s n seen-ok (e .place) refl b (λ z. u .absent z) in
           let f = item-fits e s i (ss2 .0) up in
           let s2 = change s (imageOfEntry e .place) (Some (imageOfEntry e .value)) in
@@ -350,17 +330,17 @@ module _ (t : Tree) (es : List Entry) (d : ℕ) (p : Plan) (w : wellListed es �
           let se2 : Seen s2 seen = λ k i2 b2. node-put s (imageOfEntry e) (nodeAt (imageOf (m .ls) k)) r (f .bare) refl (seen-ok k i2 b2) in
           let own : e .place .1 ≡ None → inBody (fragmentNodes es) (e .place .0) ≡ true → look s2 (nodeAt (imageOf (m .ls) (e .place .0))) ≡ Some [] = λ z y.
           (ap (λ q. look s2 (imageOf (m .ls) (e .place .0), q)) (sym z) ∙ look-put s (imageOfEntry e) r ∙ ap Some (f .bare z)) in
-          subst (λ z. Grows s (given z (puts t (imagesOf (picked xs))))) (sym (u .is)) (f, ih s2 r2 sub2 (seen-more s2 sub2 se2 own) (ss2 .1))
+          subst (λ z. Grows s (given z (putsIn t (imagesOf (picked xs))))) (sym (u .is)) (f, ih s2 r2 sub2 (seen-more s2 sub2 se2 own) (ss2 .1))
       by-touch b n ih o (inr u) ss =
-          let ss2 = subst (λ z. Short (given z (puts t (imagesOf (picked xs))))) (u .is) ss in
+          let ss2 = subst (λ z. Short (given z (putsIn t (imagesOf (picked xs))))) (u .is) ss in
           let own : e .place .1 ≡ None → inBody (fragmentNodes es) (e .place .0) ≡ true → look s (nodeAt (imageOf (m .ls) (e .place .0))) ≡ Some [] = λ z y.
           (let a : look t (nodeAt (imageOf (m .ls) (e .place .0))) ≡ Some (u .value) = ap (λ q. look t (imageOf (m .ls) (e .place .0), q)) (sym z) ∙ u .there in
           sub (nodeAt (imageOf (m .ls) (e .place .0))) refl (a ∙ ap Some (sh .bare (imageOf (m .ls) (e .place .0)) (u .value) a))) in
-          subst (λ z. Grows s (given z (puts t (imagesOf (picked xs))))) (sym (u .is)) (ih s r sub (seen-more s sub seen-ok own) ss2)
+          subst (λ z. Grows s (given z (putsIn t (imagesOf (picked xs))))) (sym (u .is)) (ih s r sub (seen-more s sub seen-ok own) ss2)
 
-      go : (b : Bool) → inBody (fragmentNodes es) (e .place .0) ≡ b → Next seen e → Rest e xs seen → Short (puts t (imagesOf (given (cond b (Some e) None) (picked xs)))) → Grows s (puts t (imagesOf (given (cond b (Some e) None) (picked xs))))
+      go : (b : Bool) → inBody (fragmentNodes es) (e .place .0) ≡ b → Next seen e → Rest e xs seen → Short (putsIn t (imagesOf (given (cond b (Some e) None) (picked xs)))) → Grows s (putsIn t (imagesOf (given (cond b (Some e) None) (picked xs))))
       go false b n ih ss = ih s r sub (seen-more s sub seen-ok (λ z y. absurd (true≢false (sym y ∙ b)))) ss
-      go true b n ih ss = by-touch b n ih (putIn (touchOf t (imageOfEntry e) (imageOfEntry e .place))) (put-read t (imageOfEntry e) (imageOfEntry e .place) refl) ss
+      go true b n ih ss = by-touch b n ih (putIn (touchAt t (imageOfEntry e) (imageOfEntry e .place))) (put-read t (imageOfEntry e) (imageOfEntry e .place) refl) ss
 
   -- ---- symbols
 
@@ -392,7 +372,7 @@ module _ (t : Tree) (es : List Entry) (d : ℕ) (p : Plan) (w : wellListed es �
         up = up;
       }
 
-  grow-symbols : (ys : List Symbol) (s : Tree) → ((y : Symbol) → In y ys → In y (overlayOf es .symbols)) → Rising s → look s (nodeAt symbolsPath) ≡ Some [] → Grows s (puts t (map (symbolEntry (m .ls)) ys))
+  grow-symbols : (ys : List Symbol) (s : Tree) → ((y : Symbol) → In y ys → In y (overlayOf es .symbols)) → Rising s → look s (nodeAt symbolsPath) ≡ Some [] → Grows s (putsIn t (map (symbolEntry (m .ls)) ys))
   unfolding Grows
   grow-symbols [] s inc r up = tt
   grow-symbols (y ∷ ys) s inc r up =
@@ -410,18 +390,18 @@ module _ (t : Tree) (es : List Entry) (d : ℕ) (p : Plan) (w : wellListed es �
       let x = behind-is (l .body) root (M .rest) (M .is) in
       omega (arith, ap length (x .0), length-append (l .body) (M .rest), ap length (f .2), length-append (f .0 .place .0) (codes "/__overlay__"))
 
-  writes-puts : puts t (images (m .env) d (m .ls) (overlayOf es)) ≡ p .writes
-  writes-puts = ap (pick putIn) (touch-all t (images (m .env) d (m .ls) (overlayOf es)) (m .ts) (m .touched)) ∙ writes-is t (overlayOf es) d p m
+  writes-puts : putsIn t (images (m .env) d (m .ls) (overlayOf es)) ≡ p .writes
+  writes-puts = ap (pick putIn) (ok-one (sym (run-touches t (images (m .env) d (m .ls) (overlayOf es))) ∙ m .touched)) ∙ writes-is t (overlayOf es) d p m
 
-  writes-split : puts t (map (imageEntry (m .env) d (m .ls)) (overlayOf es .items)) ++ puts t (map (symbolEntry (m .ls)) (overlayOf es .symbols)) ≡ p .writes
+  writes-split : putsIn t (map (imageEntry (m .env) d (m .ls)) (overlayOf es .items)) ++ putsIn t (map (symbolEntry (m .ls)) (overlayOf es .symbols)) ≡ p .writes
   writes-split = sym (puts-join t (map (imageEntry (m .env) d (m .ls)) (overlayOf es .items)) (map (symbolEntry (m .ls)) (overlayOf es .symbols))) ∙ writes-puts
 
-  grow-all : (xs : List Entry) → xs ≡ es → Short (puts t (imagesOf (picked xs))) → Grows t (puts t (imagesOf (picked xs)))
+  grow-all : (xs : List Entry) → xs ≡ es → Short (putsIn t (imagesOf (picked xs))) → Grows t (putsIn t (imagesOf (picked xs)))
   grow-all [] e ss = unfold Grows in tt
   grow-all (x ∷ xs) e ss =
       let wl = well x xs (ap wellListed e ∙ w) in
       let no : inBody (fragmentNodes es) (x .place .0) ≡ false = not-root (inBody (fragmentNodes es) (x .place .0)) refl (ap (λ z. z .0) (wl .place)) in
-      let eq : puts t (imagesOf (picked (x ∷ xs))) ≡ puts t (imagesOf (picked xs)) = ap (λ b. puts t (imagesOf (given (cond b (Some x) None) (picked xs)))) no in
+      let eq : putsIn t (imagesOf (picked (x ∷ xs))) ≡ putsIn t (imagesOf (picked xs)) = ap (λ b. putsIn t (imagesOf (given (cond b (Some x) None) (picked xs)))) no in
       subst (Grows t) (sym eq) (grow-items xs (nodeAt root ∷ []) t (wl .rest) (λ y i. subst (In y) e (inr i)) (sh .rises) (λ j n h. h) start (subst Short eq ss))
     where
       not-root : (b : Bool) → inBody (fragmentNodes es) (x .place .0) ≡ b → x .place .0 ≡ root → inBody (fragmentNodes es) (x .place .0) ≡ false
@@ -435,8 +415,8 @@ module _ (t : Tree) (es : List Entry) (d : ℕ) (p : Plan) (w : wellListed es �
   pub plan-grows : look t (nodeAt symbolsPath) ≡ Some [] → Grows t (p .writes)
   unfolding overlayOf bodyEntries
   plan-grows sy =
-      let A = puts t (map (imageEntry (m .env) d (m .ls)) (overlayOf es .items)) in
-      let B = puts t (map (symbolEntry (m .ls)) (overlayOf es .symbols)) in
+      let A = putsIn t (map (imageEntry (m .env) d (m .ls)) (overlayOf es .items)) in
+      let B = putsIn t (map (symbolEntry (m .ls)) (overlayOf es .symbols)) in
       let short : Short (A ++ B) = subst Short (sym (writes-split ∙ sym (writes-is t (overlayOf es) d p m))) (m .allows .short) in
       let g : Grows t A = grow-all es refl (lefts A B short) in
       subst (Grows t) writes-split (grows-join A B t g (grow-symbols (overlayOf es .symbols) (apply A t) (λ y i. i) (rises-apply A t (sh .rises)) (node-stays A t (nodeAt symbolsPath) (sh .rises) g refl sy)))
@@ -477,20 +457,17 @@ module _ (t : Tree) (es : List Entry) (d : ℕ) (p : Plan) (w : wellListed es �
       go false a b = let z : _≡_ {A = ℕ} 0 1 = cc in absurd (omega arith)
       go true a b = let f = some-true (λ f. sameBytes (f .body) q) (overlayOf es .fragments) a in (refl, at-top (f .0) (f .1) (sameBytes-decides (f .0 .body) q .0 (f .2)))
 
-  cost-items : (f : Place → Bytes → ℕ) (xs : List Item) → ((i : Item) → In i xs → In i (overlayOf es .items)) → total f (listed (puts t (map (imageEntry (m .env) d (m .ls)) xs))) ≤ total f (listed (map (imageEntry (m .env) d (m .ls)) (pick (λ i. belowTop (overlayOf es) i (i .place)) xs)))
+  cost-items : (f : Place → Bytes → ℕ) (xs : List Item) → ((i : Item) → In i xs → In i (overlayOf es .items)) → total f (listed (putsIn t (map (imageEntry (m .env) d (m .ls)) xs))) ≤ total f (listed (map (imageEntry (m .env) d (m .ls)) (pick (λ i. belowTop (overlayOf es) i (i .place)) xs)))
   unfolding total
   cost-items f [] inc = omega arith
   cost-items f (i ∷ xs) inc =
-      go (belowTop (overlayOf es) i (i .place)) refl (putIn (touchOf t (imageEntry (m .env) d (m .ls) i) (imageEntry (m .env) d (m .ls) i .place))) (put-read t (imageEntry (m .env) d (m .ls) i) (imageEntry (m .env) d (m .ls) i .place) refl) (cost-items f xs (λ j k. inc j (inr k)))
+      go (belowTop (overlayOf es) i (i .place)) refl (putIn (touchAt t (imageEntry (m .env) d (m .ls) i) (imageEntry (m .env) d (m .ls) i .place))) (put-read t (imageEntry (m .env) d (m .ls) i) (imageEntry (m .env) d (m .ls) i .place) refl) (cost-items f xs (λ j k. inc j (inr k)))
     where
-      A : ℕ
-      A = total f (listed (puts t (map (imageEntry (m .env) d (m .ls)) xs)))
+      put-cost : (o : Option Entry) → o ≡ Some (imageEntry (m .env) d (m .ls) i) → total f (listed (given o (putsIn t (map (imageEntry (m .env) d (m .ls)) xs)))) ≡ f (imageEntry (m .env) d (m .ls) i .place) (imageEntry (m .env) d (m .ls) i .value) + total f (listed (putsIn t (map (imageEntry (m .env) d (m .ls)) xs)))
+      put-cost o e = ap (λ z. total f (listed (given z (putsIn t (map (imageEntry (m .env) d (m .ls)) xs))))) e
 
-      put-cost : (o : Option Entry) → o ≡ Some (imageEntry (m .env) d (m .ls) i) → total f (listed (given o (puts t (map (imageEntry (m .env) d (m .ls)) xs)))) ≡ f (imageEntry (m .env) d (m .ls) i .place) (imageEntry (m .env) d (m .ls) i .value) + total f (listed (puts t (map (imageEntry (m .env) d (m .ls)) xs)))
-      put-cost o e = ap (λ z. total f (listed (given z (puts t (map (imageEntry (m .env) d (m .ls)) xs))))) e
-
-      read-cost : (o : Option Entry) → o ≡ None → total f (listed (given o (puts t (map (imageEntry (m .env) d (m .ls)) xs)))) ≡ total f (listed (puts t (map (imageEntry (m .env) d (m .ls)) xs)))
-      read-cost o e = ap (λ z. total f (listed (given z (puts t (map (imageEntry (m .env) d (m .ls)) xs))))) e
+      read-cost : (o : Option Entry) → o ≡ None → total f (listed (given o (putsIn t (map (imageEntry (m .env) d (m .ls)) xs)))) ≡ total f (listed (putsIn t (map (imageEntry (m .env) d (m .ls)) xs)))
+      read-cost o e = ap (λ z. total f (listed (given z (putsIn t (map (imageEntry (m .env) d (m .ls)) xs))))) e
 
       below : (j : Item) → belowTop (overlayOf es) i (i .place) ≡ Some j → (k : Place) → i .place ≡ k → belowTop (overlayOf es) i k ≡ Some j → i ≡ j
       below j e (q, Some n) ek h = cc
@@ -501,8 +478,8 @@ module _ (t : Tree) (es : List Entry) (d : ℕ) (p : Plan) (w : wellListed es �
           by false h = cc
 
       go : (b : Option Item) → belowTop (overlayOf es) i (i .place) ≡ b → (o : Option Entry) → Put t (imageEntry (m .env) d (m .ls) i) o ⊎ Read t (imageEntry (m .env) d (m .ls) i) o
-          → total f (listed (puts t (map (imageEntry (m .env) d (m .ls)) xs))) ≤ total f (listed (map (imageEntry (m .env) d (m .ls)) (pick (λ i. belowTop (overlayOf es) i (i .place)) xs)))
-          → total f (listed (given o (puts t (map (imageEntry (m .env) d (m .ls)) xs)))) ≤ total f (listed (map (imageEntry (m .env) d (m .ls)) (given b (pick (λ i. belowTop (overlayOf es) i (i .place)) xs))))
+          → total f (listed (putsIn t (map (imageEntry (m .env) d (m .ls)) xs))) ≤ total f (listed (map (imageEntry (m .env) d (m .ls)) (pick (λ i. belowTop (overlayOf es) i (i .place)) xs)))
+          → total f (listed (given o (putsIn t (map (imageEntry (m .env) d (m .ls)) xs)))) ≤ total f (listed (map (imageEntry (m .env) d (m .ls)) (given b (pick (λ i. belowTop (overlayOf es) i (i .place)) xs))))
       go None eb o (inl u) ih = let x = top-there i (inc i (inl refl)) (i .place) refl eb in absurd (some-none [] (sym (x .1) ∙ u .absent (x .0)))
       go None eb o (inr u) ih = omega (arith, ih, read-cost o (u .is))
       go (Some j) eb o (inl u) ih =
@@ -511,7 +488,7 @@ module _ (t : Tree) (es : List Entry) (d : ℕ) (p : Plan) (w : wellListed es �
           omega (arith, ih, put-cost o (u .is), e2)
       go (Some j) eb o (inr u) ih = omega (arith, ih, read-cost o (u .is))
 
-  symbols-put : (ys : List Symbol) → puts t (map (symbolEntry (m .ls)) ys) ≡ map (symbolEntry (m .ls)) ys
+  symbols-put : (ys : List Symbol) → putsIn t (map (symbolEntry (m .ls)) ys) ≡ map (symbolEntry (m .ls)) ys
   symbols-put [] = refl
   symbols-put (y ∷ ys) = ap (λ z. symbolEntry (m .ls) y ∷ z) (symbols-put ys)
 
@@ -521,8 +498,8 @@ module _ (t : Tree) (es : List Entry) (d : ℕ) (p : Plan) (w : wellListed es �
 
   pub cost-share : (f : Place → Bytes → ℕ) → total f (listed (p .writes)) ≤ total f (listed (shared (m .env) d (m .ls) (overlayOf es)))
   cost-share f =
-      let A = puts t (map (imageEntry (m .env) d (m .ls)) (overlayOf es .items)) in
-      let B = puts t (map (symbolEntry (m .ls)) (overlayOf es .symbols)) in
+      let A = putsIn t (map (imageEntry (m .env) d (m .ls)) (overlayOf es .items)) in
+      let B = putsIn t (map (symbolEntry (m .ls)) (overlayOf es .symbols)) in
       let C = map (imageEntry (m .env) d (m .ls)) (pick (λ i. belowTop (overlayOf es) i (i .place)) (overlayOf es .items)) in
       let D = map (symbolEntry (m .ls)) (overlayOf es .symbols) in
       let e1 = ap (λ z. total f (listed z)) writes-split in

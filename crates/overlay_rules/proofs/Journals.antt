@@ -1,11 +1,8 @@
 -- Writes in order, what they leave, and restoring them. Assumes nothing.
 use mathlib.Core.Path.{_≡_, refl, sym, ap, subst, _∙_}
-use mathlib.Core.List.{List, [], _∷_, _++_, map}
+use mathlib.Core.List.{List, [], _∷_, _++_}
 use mathlib.Core.Logic.{_⊎_, inl, inr, ⊎-elim}
-use Prim.Native.Nat.{ℕ}
-use Rattle.std.specs.declared.option.Option.{Option}
-use Rattle.std.specs.declared.option.Option.the-variants.{None, Some}
-use Rattle.std.specs.Finite.{All}
+use Rattle.std.specs.declared.option.Option.the-variants.{Some}
 use Rattle.tree.specs.Entries.{Entry}
 use Rattle.tree.specs.Places.{Bytes, Place}
 use Rattle.tree.specs.Trees.{Tree, look, change}

@@ -8,10 +8,12 @@ pub mod Journals
 pub mod Listing
 pub mod Lists
 pub mod Looks
+pub mod Merging
 pub mod Noting
 pub mod Pathing
 pub mod Planning
 pub mod References
 pub mod Rules
 pub mod Shapes
+pub mod Stepping
 pub mod Touching

@@ -1,26 +1,20 @@
 -- What the listing of a good blob's entries establishes. Assumes nothing.
 use mathlib.Core.Path.{_≡_, refl, sym, ap, subst, _∙_}
-use mathlib.Core.Bool.{Bool, true, false, cond, not, _&&_, _||_, true≢false}
-use mathlib.Core.List.{List, [], _∷_, _++_}
-use mathlib.Core.Logic.{_⊎_, inl, inr, ⊎-elim}
-use Prim.Native.Nat.{ℕ}
-use lib.Dec.{eqb}
-use lib.ListN.{length}
-use Rattle.std.specs.declared.option.Option.{Option}
-use Rattle.std.specs.declared.option.Option.the-variants.{None, Some}
-use Rattle.std.specs.Finite.{All}
+use mathlib.Core.Bool.{true, false, cond}
+use mathlib.Core.List.{List, [], _∷_}
+use mathlib.Core.Logic.{inl, inr}
+use Rattle.std.specs.declared.option.Option.the-variants.{Some}
 use Rattle.std.proofs.shelf.Lists.{nil-from-length}
-use Rattle.std.proofs.shelf.Tests.{and-parts, and-from, not-true, eqb-true, cond-true, cond-false}
+use Rattle.std.proofs.shelf.Tests.{and-parts, eqb-true, cond-true, cond-false}
 use Rattle.names.specs.Paths.{root, pathText}
-use Rattle.tree.specs.Entries.{Entry}
-use Rattle.tree.specs.Places.{Bytes, Place, nodeAt}
+use Rattle.tree.specs.Entries.{Entry, bare, listedFrom, listedNext, samePlace, some, wellListed}
+use Rattle.tree.specs.Places.{Place, nodeAt}
 use Rattle.tree.specs.Trees.{namedPlace, shortPlace, upPlace}
-use Rattle.overlay_rules.specs.Texts.{some}
-use Rattle.overlay_rules.specs.Overlays.{samePlace, valueAt}
-use Rattle.overlay_rules.specs.Checks.{bare, listedNext, listedFrom, wellListed}
+use Rattle.tree.proofs.Listed.{same-self, same-only, listed-next as next-one}
+use Rattle.overlay_rules.specs.Overlays.{valueAt}
 use Rattle.overlay_rules.specs.Laws.{In}
 use Rattle.overlay_rules.proofs.Lists.{all-at, some-false, some-true}
-use Rattle.overlay_rules.proofs.Looks.{same-place, place-from, place-not, not-place}
+use Rattle.overlay_rules.proofs.Looks.{place-not, not-place}
 
 -- an entry by itself
 pub record Good-entry (e : Entry) : Type 0 where
@@ -36,20 +30,12 @@ pub record Next (seen : List Place) (e : Entry) : Type 0 where
 
 pub next-is : (seen : List Place) (e : Entry) → listedNext seen e ≡ true → Next seen e
 next-is seen e h =
-    let N = namedPlace (e .place) in
-    let S = shortPlace (e .place) (e .value) in
-    let B = bare (e .place) (e .value) in
-    let W = some (samePlace (e .place)) seen in
-    let U = some (samePlace (upPlace (e .place))) seen in
-    let a = and-parts (N && (S && B)) (not W && U) h in
-    let b = and-parts N (S && B) (a .0) in
-    let c = and-parts S B (b .1) in
-    let d = and-parts (not W) U (a .1) in
-    let u = some-true (samePlace (upPlace (e .place))) seen (d .1) in
+    let n = next-one seen e h in
+    let u = some-true (samePlace (upPlace (e .place))) seen (n .up) in
     record {
-      good = record { named = b .0; short = c .0; bare = c .1 };
-      new = not-true _ (d .0);
-      up = subst (λ z. In z seen) (sym (place-from (upPlace (e .place)) (u .0) (u .2))) (u .1);
+      good = record { named = n .named; short = n .short; bare = n .bared };
+      new = n .new;
+      up = subst (λ z. In z seen) (sym (same-only (upPlace (e .place)) (u .0) (u .2))) (u .1);
     }
 
 pub listed-next : (seen : List Place) (e : Entry) (es : List Entry) → listedFrom seen (e ∷ es) ≡ true → Next seen e × (listedFrom (e .place ∷ seen) es ≡ true)
@@ -66,7 +52,7 @@ listed-new seen (x ∷ es) e k h (inr i) j p = listed-new (x .place ∷ seen) es
 value-listed : (seen : List Place) (es : List Entry) (e : Entry) → listedFrom seen es ≡ true → In e es → valueAt es (e .place) ≡ Some (e .value)
 unfolding valueAt
 value-listed seen [] e h i = absurd i
-value-listed seen (x ∷ es) e h (inl p) = subst (λ z. cond (samePlace (x .place) (z .place)) (Some (x .value)) (valueAt es (z .place)) ≡ Some (z .value)) (sym p) (cond-true _ _ _ (same-place (x .place)))
+value-listed seen (x ∷ es) e h (inl p) = subst (λ z. cond (samePlace (x .place) (z .place)) (Some (x .value)) (valueAt es (z .place)) ≡ Some (z .value)) (sym p) (cond-true _ _ _ (same-self (x .place)))
 value-listed seen (x ∷ es) e h (inr i) =
     let n = listed-next seen x es h in
     cond-false _ _ _ (not-place (x .place) (e .place) (λ p. listed-new (x .place ∷ seen) es e (x .place) (n .1) i (inl refl) (sym p)))
@@ -86,7 +72,7 @@ pub well : (e : Entry) (es : List Entry) → wellListed (e ∷ es) ≡ true → 
 well e es h =
     let a = and-parts _ _ h in
     let b = and-parts _ _ (a .1) in
-    record { place = place-from (e .place) (nodeAt root) (a .0); value = nil-from-length (e .value) (eqb-true _ _ (b .0)); rest = b .1 }
+    record { place = same-only (e .place) (nodeAt root) (a .0); value = nil-from-length (e .value) (eqb-true _ _ (b .0)); rest = b .1 }
 
 root-good : (e : Entry) → e .place ≡ nodeAt root → e .value ≡ [] → Good-entry e
 unfolding pathText
@@ -103,7 +89,7 @@ all-good (x ∷ es) e h (inr i) = listed-good (nodeAt root ∷ []) es e (well x 
 pub value-at : (es : List Entry) (e : Entry) → wellListed es ≡ true → In e es → valueAt es (e .place) ≡ Some (e .value)
 unfolding valueAt
 value-at [] e h i = absurd i
-value-at (x ∷ es) e h (inl p) = subst (λ z. cond (samePlace (x .place) (z .place)) (Some (x .value)) (valueAt es (z .place)) ≡ Some (z .value)) (sym p) (cond-true _ _ _ (same-place (x .place)))
+value-at (x ∷ es) e h (inl p) = subst (λ z. cond (samePlace (x .place) (z .place)) (Some (x .value)) (valueAt es (z .place)) ≡ Some (z .value)) (sym p) (cond-true _ _ _ (same-self (x .place)))
 value-at (x ∷ es) e h (inr i) =
     let w = well x es h in
     cond-false _ _ _ (not-place (x .place) (e .place) (λ p. listed-new (nodeAt root ∷ []) es e (nodeAt root) (w .rest) i (inl refl) (sym p ∙ w .place)))

@@ -1,6 +1,6 @@
 -- Lists: what holds of all, of one, and of those that are picked. Assumes nothing.
 use mathlib.Core.Path.{_≡_, refl, sym, ap, subst, _∙_}
-use mathlib.Core.Bool.{Bool, true, false, cond, _&&_, _||_, true≢false}
+use mathlib.Core.Bool.{Bool, true, false, _&&_, _||_, true≢false}
 use mathlib.Core.List.{List, [], _∷_, _++_, map}
 use mathlib.Core.Logic.{_⊎_, inl, inr, ⊎-elim}
 use Prim.Native.Nat.{ℕ}
@@ -10,7 +10,8 @@ use Rattle.std.specs.declared.option.Option.the-variants.{None, Some}
 use Rattle.std.specs.Finite.{All}
 use Rattle.std.proofs.shelf.Tests.{or-parts, or-left, or-right, and-parts}
 use Rattle.names.specs.Names.{each}
-use Rattle.overlay_rules.specs.Texts.{some, given, pick, joined}
+use Rattle.tree.specs.Entries.{some}
+use Rattle.overlay_rules.specs.Texts.{given, pick, joined}
 use Rattle.overlay_rules.specs.Laws.{In}
 
 pub all-at : {A : Type 0} (P : A → Type 0) (a : A) (xs : List A) → All P xs → In a xs → P a

@@ -1,9 +1,9 @@
 -- Look-up and change of trees, and who has a phandle. Assumes nothing.
 use mathlib.Core.Path.{_≡_, refl, sym, ap, subst, _∙_}
-use mathlib.Core.Bool.{Bool, true, false, cond, _&&_, _||_, not, true≢false}
+use mathlib.Core.Bool.{Bool, true, false, cond, _||_, true≢false}
 use mathlib.Core.List.{List, [], _∷_, _++_}
 use mathlib.Core.Logic.{_⊎_, inl, inr, ⊎-elim}
-use Prim.Native.Nat.{ℕ, _≤_, max}
+use Prim.Native.Nat.{ℕ, _≤_}
 use native.Mathlib.Omega.{arith}
 use lib.Chars.{codes}
 use lib.Dec.{eqb}
@@ -11,23 +11,21 @@ use Rattle.std.specs.declared.cmp.Ordering.{Ordering}
 use Rattle.std.specs.declared.cmp.Ordering.the-variants.{Less, Equal, Greater}
 use Rattle.std.specs.declared.option.Option.{Option}
 use Rattle.std.specs.declared.option.Option.the-variants.{None, Some}
-use Rattle.std.specs.Finite.{All}
-use Rattle.std.specs.Orderings.{isEq}
 use Rattle.std.specs.shelf.Lookups.{by-order}
-use Rattle.std.specs.shelf.Text.{sameBytes}
 use Rattle.std.proofs.shelf.Equals.{sameBytes-decides}
-use Rattle.std.proofs.shelf.Tests.{or-parts, or-left, or-right, and-parts, and-from, eq-eqb, eqb-true, not-true, not-from-false}
-use Rattle.names.specs.Names.{each}
-use Rattle.tree.specs.Maps.{find, upd, Rises, Below}
+use Rattle.std.proofs.shelf.Tests.{or-left, or-right, and-parts, and-from, eq-eqb, eqb-true, not-true, not-from-false}
+use Rattle.tree.specs.Entries.{samePlace}
+use Rattle.tree.specs.Maps.{find, Rises}
 use Rattle.tree.specs.Numbers.{be32}
 use Rattle.tree.specs.Phandles.{isPhandle, handleOn, handles, validHandle, sharesWith, distinctHandles, phandleRule, largestOf, largestPhandle, holderOf, holder}
 use Rattle.tree.specs.Places.{Bytes, Place, order}
 use Rattle.tree.specs.Trees.{Places, Tree, look, change}
-use Rattle.tree.proofs.Maps.{same, some-none, some-one, find-same, find-other, rises-upd, ext, head-found, find-below, find-tail}
+use Rattle.tree.proofs.Listed.{same-self, same-only}
+use Rattle.tree.proofs.Maps.{some-none, some-one, find-same, find-other, rises-upd, ext, head-found, find-below, find-tail}
 use Rattle.tree.proofs.MapLaws.{decide}
 use Rattle.tree.proofs.Places.{place-order}
-use Rattle.overlay_rules.specs.Overlays.{phandleAt, samePlace}
-use Rattle.overlay_rules.specs.Laws.{Rising, In, Valid, Unique, Fewer, Same-at}
+use Rattle.overlay_rules.specs.Overlays.{phandleAt}
+use Rattle.overlay_rules.specs.Laws.{Rising, In, Valid, Unique}
 use Rattle.overlay_rules.proofs.Lists.{all-at, all-from, each-all, all-each, in-cases, in-left, in-right}
 
 pub look-same : (t : Tree) (k : Place) (w : Option Bytes) → Rising t → look (change t k w) k ≡ w
@@ -54,25 +52,14 @@ tree-ext s t b rs rt h = let e = ext place-order (s .places) (t .places) rs rt h
 pub decide-place : (x y : Place) → (x ≡ y) ⊎ (x ≡ y → ⊥)
 decide-place = decide place-order
 
-pub same-place : (k : Place) → samePlace k k ≡ true
-same-place k = ap isEq (same place-order k)
-
-pub place-from : (k l : Place) → samePlace k l ≡ true → k ≡ l
-place-from k l h = go (order k l) refl h
-  where
-    go : (o : Ordering) → order k l ≡ o → isEq o ≡ true → k ≡ l
-    go Less e h = absurd (true≢false (sym h))
-    go Equal e h = place-order .exact k l e
-    go Greater e h = absurd (true≢false (sym h))
-
 pub place-not : (k l : Place) → samePlace k l ≡ false → k ≡ l → ⊥
-place-not k l h e = true≢false (sym (same-place l) ∙ ap (λ z. samePlace z l) (sym e) ∙ h)
+place-not k l h e = true≢false (sym (same-self l) ∙ ap (λ z. samePlace z l) (sym e) ∙ h)
 
 pub not-place : (k l : Place) → (k ≡ l → ⊥) → samePlace k l ≡ false
 not-place k l n = go (samePlace k l) refl
   where
     go : (b : Bool) → samePlace k l ≡ b → samePlace k l ≡ false
-    go true e = absurd (n (place-from k l e))
+    go true e = absurd (n (same-only k l e))
     go false e = e
 
 -- ---- handles

@@ -4,30 +4,24 @@ use mathlib.Core.Bool.{Bool, true, false, cond, _||_, true≢false}
 use mathlib.Core.List.{List, [], _∷_, _++_, map}
 use mathlib.Core.Logic.{_⊎_, inl, inr, ⊎-elim}
 use Prim.Native.Nat.{ℕ}
-use lib.Chars.{codes}
-use Rattle.std.specs.declared.option.Option.{Option}
 use Rattle.std.specs.declared.option.Option.the-variants.{None, Some}
-use Rattle.std.specs.declared.result.Result.the-variants.{Ok}
 use Rattle.std.specs.Finite.{All}
-use Rattle.std.specs.shelf.Text.{sameBytes}
-use Rattle.std.proofs.shelf.Equals.{sameBytes-decides}
 use Rattle.std.proofs.shelf.Tests.{or-right}
-use Rattle.tree.specs.Entries.{Entry}
+use Rattle.tree.specs.Entries.{Entry, samePlace, some}
 use Rattle.tree.specs.Phandles.{isPhandle}
 use Rattle.tree.specs.Places.{Bytes, Place, nodeAt, propertyAt}
 use Rattle.tree.specs.Trees.{Tree, look}
 use Rattle.tree.proofs.Maps.{some-none}
-use Rattle.overlay_rules.specs.Texts.{some, pick, joined}
-use Rattle.overlay_rules.specs.Overlays.{symbolsPath, phandleAt, samePlace, Fragment, Overlay}
-use Rattle.overlay_rules.specs.Queries.{run}
-use Rattle.overlay_rules.specs.Plans.{Known, labelled, Located, located, images, Touch, there, put, touch, thereIn, once, Plan, hasLabels, knownReads, plan}
+use Rattle.overlay_rules.specs.Texts.{pick, joined}
+use Rattle.overlay_rules.specs.Overlays.{symbolsPath, phandleAt, Fragment, Overlay}
+use Rattle.overlay_rules.specs.Plans.{Known, labelled, Located, located, images, there, touch, thereIn, once, Plan, hasLabels, knownReads}
 use Rattle.overlay_rules.specs.Records.{Note, distinct, readNote, writeNote, notes}
-use Rattle.overlay_rules.specs.Laws.{Rising, In, Free, Writes-at, Apart-notes, Records, Records-what-it-touches}
-use Rattle.overlay_rules.proofs.Lists.{all-at, all-from, all-both, in-cases, in-left, in-right, in-map-from, in-joined-from, in-pick-from, some-false}
-use Rattle.overlay_rules.proofs.Looks.{place-not, holder-found}
+use Rattle.overlay_rules.specs.Laws.{Rising, In, Writes-at, Apart-notes, Records, Records-what-it-touches}
+use Rattle.overlay_rules.proofs.Lists.{all-at, all-from, all-both, in-cases, in-map-from, in-joined-from, in-pick-from, some-false}
+use Rattle.overlay_rules.proofs.Looks.{place-not}
 use Rattle.overlay_rules.proofs.Asking.{gave, gave-from}
 use Rattle.overlay_rules.proofs.Journals.{Distinct}
-use Rattle.overlay_rules.proofs.Planning.{Labelled, labelled-is, Located-at, located-is, Was, New, touch-is, Allowed, Planned, plan-is}
+use Rattle.overlay_rules.proofs.Planning.{labelled-is, located-is, Was, New, touch-is, Planned, plan-is}
 use Rattle.overlay_rules.proofs.Touching.{reads-is, writes-is, once-absent, node-absent, note-read, note-write}
 
 -- ---- reads once each

@@ -1,9 +1,9 @@
 -- Paths as bytes: their last name, what stands behind a path, and images. Assumes nothing.
 use mathlib.Core.Path.{_≡_, refl, sym, ap, subst, _∙_}
-use mathlib.Core.Bool.{Bool, true, false, cond, not, _&&_, _||_, true≢false}
+use mathlib.Core.Bool.{Bool, true, false, cond, _&&_, true≢false}
 use mathlib.Core.List.{List, [], _∷_, _++_}
 use mathlib.Core.Logic.{_⊎_, inl, inr, ⊎-elim}
-use Prim.Native.Nat.{ℕ, _+_, _-_, _<_, _≤_}
+use Prim.Native.Nat.{ℕ, _+_, _<_}
 use native.Mathlib.Omega.{arith}
 use lib.Dec.{eqb}
 use lib.ListN.{length, take, drop}
@@ -11,10 +11,11 @@ use Rattle.std.specs.declared.option.Option.{Option}
 use Rattle.std.specs.declared.option.Option.the-variants.{None, Some}
 use Rattle.std.specs.shelf.Text.{sameBytes}
 use Rattle.std.proofs.shelf.Equals.{sameBytes-decides}
-use Rattle.std.proofs.shelf.Lists.{append-nil, append-assoc, append-cancel-right, length-append, take-append-drop, take-at, drop-at, nil-from-length}
-use Rattle.std.proofs.shelf.Tests.{and-parts, and-from, and-cases, or-cases, or-from, or-left, or-right, eqb-true, eq-eqb, eqb-false, ne-eqb, cond-true, cond-false, not-true, not-from-false, cases-bool}
+use Rattle.std.proofs.shelf.Lists.{append-nil, append-assoc, length-append, take-append-drop, take-at, drop-at, nil-from-length}
+use Rattle.std.proofs.shelf.Tests.{and-parts, and-from, or-cases, or-from, or-right, eqb-true, eqb-false, ne-eqb, cond-true, cond-false, not-true, not-from-false}
 use Rattle.names.specs.Names.{each, nodeName}
-use Rattle.names.specs.Paths.{root, parts, pathText, stem, under, plain, behindLast, leaf, parent}
+use Rattle.names.specs.Paths.{root, parts, pathText, stem, under, plain, parent}
+use Rattle.names.proofs.PathLaws.{parent-of, parts-join, under-some}
 use Rattle.tree.specs.Places.{Bytes}
 use Rattle.tree.proofs.Maps.{some-none, some-one}
 use Rattle.overlay_rules.specs.Texts.{slashed, behind}
@@ -44,29 +45,6 @@ behind-from p r h =
 
 -- ---- the last name
 
-behind-plain : (cur xs : Bytes) → plain xs ≡ true → behindLast cur xs ≡ cur
-unfolding behindLast
-behind-plain cur [] h = refl
-behind-plain cur (b ∷ xs) h = let a = and-parts _ _ h in cond-false _ _ _ (not-true _ (a .0)) ∙ behind-plain cur xs (a .1)
-
-behind-last : (cur pre name : Bytes) → plain name ≡ true → behindLast cur (pre ++ (47 ∷ name)) ≡ name
-unfolding behindLast
-behind-last cur [] name h = behind-plain name name h
-behind-last cur (b ∷ pre) name h = go (eqb b 47) (behind-last cur pre name h) (behind-last (pre ++ (47 ∷ name)) pre name h)
-  where
-    go : (c : Bool) → behindLast cur (pre ++ (47 ∷ name)) ≡ name → behindLast (pre ++ (47 ∷ name)) (pre ++ (47 ∷ name)) ≡ name → cond c (behindLast (pre ++ (47 ∷ name)) (pre ++ (47 ∷ name))) (behindLast cur (pre ++ (47 ∷ name))) ≡ name
-    go true x y = y
-    go false x y = x
-
-pub leaf-is : (pre name : Bytes) → plain name ≡ true → leaf (pre ++ (47 ∷ name)) ≡ name
-leaf-is pre name h = behind-last (pre ++ (47 ∷ name)) pre name h
-
-pub parent-is : (pre name : Bytes) → plain name ≡ true → parent (pre ++ (47 ∷ name)) ≡ cond (eqb (length pre) 0) root pre
-unfolding parent
-parent-is pre name h =
-    let e : length (pre ++ (47 ∷ name)) - (length (leaf (pre ++ (47 ∷ name))) + 1) ≡ length pre = ap (λ z. length (pre ++ (47 ∷ name)) - (length z + 1)) (leaf-is pre name h) ∙ omega (arith, length-append pre (47 ∷ name)) in
-    ap (λ n. cond (eqb n 0) root (take n (pre ++ (47 ∷ name)))) e ∙ ap (λ z. cond (eqb (length pre) 0) root z) (take-at pre (47 ∷ name) (length pre) refl)
-
 -- every text is without a `/`, or has a last one
 pub record Last (xs : Bytes) : Type 0 where
   pub pre : Bytes
@@ -92,16 +70,6 @@ last-of bs = ⊎-elim
     (split-last bs)
 
 -- ---- names of paths
-
-pub parts-join : (cur xs ys : Bytes) → parts cur (xs ++ (47 ∷ ys)) ≡ parts cur xs ++ parts [] ys
-unfolding parts
-parts-join cur [] ys = refl
-parts-join cur (b ∷ xs) ys = go (eqb b 47) (parts-join [] xs ys) (parts-join (cur ++ b ∷ []) xs ys)
-  where
-    go : (c : Bool) → parts [] (xs ++ (47 ∷ ys)) ≡ parts [] xs ++ parts [] ys → parts (cur ++ b ∷ []) (xs ++ (47 ∷ ys)) ≡ parts (cur ++ b ∷ []) xs ++ parts [] ys
-        → cond c (cur ∷ parts [] (xs ++ (47 ∷ ys))) (parts (cur ++ b ∷ []) (xs ++ (47 ∷ ys))) ≡ cond c (cur ∷ parts [] xs) (parts (cur ++ b ∷ []) xs) ++ parts [] ys
-    go true x y = ap (λ z. cur ∷ z) x
-    go false x y = y
 
 each-join : {A : Type 0} (p : A → Bool) (xs ys : List A) → each p xs ≡ true → each p ys ≡ true → each p (xs ++ ys) ≡ true
 each-join p [] ys h k = k
@@ -149,7 +117,7 @@ stem-path (x ∷ p) bs h k = go (sameBytes (x ∷ p) root) refl
         and-from _ _ (and-parts _ _ h .0) (or-right (eqb (length (p ++ (47 ∷ bs))) 0) _ (ap (each nodeName) (parts-join [] p bs) ∙ each-join nodeName (parts [] p) (parts [] bs) t k))
 
 under-more : (p : Bytes) (b : ℕ) (r : Bytes) → under p (b ∷ r) ≡ stem p ++ (b ∷ r)
-under-more p b r = cond-false _ _ _ (ne-eqb (length (b ∷ r)) 0 (λ e. omega (arith, e)))
+under-more p b r = under-some p (b ∷ r) (omega arith)
 
 pub path-under : (p a r : Bytes) → pathText p ≡ true → 0 < length a → pathText (a ++ r) ≡ true → slashed r ≡ true → pathText (under p r) ≡ true
 path-under p a [] hp l h s = hp
@@ -175,7 +143,7 @@ empty-path (x ∷ q) h e = omega arith
 pub parent-under : (p pre name : Bytes) → plain name ≡ true → pathText p ≡ true → parent (under p (pre ++ (47 ∷ name))) ≡ under p pre
 parent-under p pre name f h =
     let e : under p (pre ++ (47 ∷ name)) ≡ (stem p ++ pre) ++ (47 ∷ name) = cond-false _ _ _ (ne-eqb (length (pre ++ (47 ∷ name))) 0 (λ z. long z)) ∙ sym (append-assoc (stem p) pre (47 ∷ name)) in
-    ap parent e ∙ parent-is (stem p ++ pre) name f ∙ go pre
+    ap parent e ∙ parent-of (stem p ++ pre) name f ∙ go pre
   where
     long : length (pre ++ (47 ∷ name)) ≡ 0 → ⊥
     long z = omega (arith, length-append pre (47 ∷ name), z)
@@ -287,7 +255,7 @@ child-slashes (x ∷ bs) h n e =
     (λ l.
     let q : x ∷ bs ≡ (47 ∷ l .pre) ++ (47 ∷ l .name) = λ i. s i ∷ l .is i in
     let o : cond (eqb (length (47 ∷ l .pre)) 0) root (47 ∷ l .pre) ≡ 47 ∷ l .pre = cond-false _ _ _ (ne-eqb (length (47 ∷ l .pre)) 0 (λ z. omega (arith, z))) in
-    let r : 47 ∷ l .pre ≡ root = sym o ∙ sym (parent-is (47 ∷ l .pre) (l .name) (l .free)) ∙ ap parent (sym q) ∙ e in
+    let r : 47 ∷ l .pre ≡ root = sym o ∙ sym (parent-of (47 ∷ l .pre) (l .name) (l .free)) ∙ ap parent (sym q) ∙ e in
     let m : l .pre ≡ [] = tail-eq r in
     absurd (true≢false (sym h ∙ ap pathText (q ∙ ap (λ z. (47 ∷ z) ++ (47 ∷ l .name)) m) ∙ double-slash (l .name))))
     (split-last bs)

@@ -1,16 +1,15 @@
 -- What a plan that can be done has found, and what it asked. Assumes nothing.
 use mathlib.Core.Path.{_≡_, refl, sym, ap, subst, _∙_}
-use mathlib.Core.Bool.{Bool, true, false, cond, _||_, true≢false}
-use mathlib.Core.List.{List, [], _∷_, _++_, map, append-nil}
-use mathlib.Core.Logic.{_⊎_, inl, inr, ⊎-elim}
-use Prim.Native.Nat.{ℕ, _+_, _≤_, _<_, max, min}
-use native.Mathlib.Omega.{arith}
+use mathlib.Core.Bool.{Bool, true, false, cond}
+use mathlib.Core.List.{List, [], _∷_, _++_, append-nil}
+use mathlib.Core.Logic.{_⊎_, inl, inr}
+use Prim.Native.Nat.{ℕ, _+_, _≤_, min}
 use lib.Dec.{ltb}
 use lib.ListN.{length}
 use Rattle.std.specs.declared.option.Option.{Option}
 use Rattle.std.specs.declared.option.Option.the-variants.{None, Some}
 use Rattle.std.specs.declared.result.Result.{Result}
-use Rattle.std.specs.declared.result.Result.the-variants.{Ok, Err}
+use Rattle.std.specs.declared.result.Result.the-variants.{Ok}
 use Rattle.std.specs.Finite.{All}
 use Rattle.std.proofs.shelf.Tests.{ltb-false}
 use Rattle.tree.specs.Entries.{Entry}
@@ -18,16 +17,16 @@ use Rattle.tree.specs.Numbers.{be32}
 use Rattle.tree.specs.Phandles.{holder}
 use Rattle.tree.specs.Places.{Bytes, Place, nodeAt, propertyAt}
 use Rattle.tree.specs.Trees.{Tree, look}
-use Rattle.tree.proofs.Maps.{some-none, some-one}
-use Rattle.overlay_rules.specs.Texts.{some, pick, joined, zeroEnded}
-use Rattle.overlay_rules.specs.Overlays.{symbolsPath, phandleAt, samePlace, Label, Target, byPath, byNumber, byLabel, Fragment, Overlay}
-use Rattle.overlay_rules.specs.Queries.{Query, done, refuse, ask, seek, _>>=_, run, sought, asked, need, stopAt, forEach}
-use Rattle.overlay_rules.specs.Plans.{Known, labelled, known, Located, nodeThere, numberThere, located, images, Touch, there, put, ifThere, touch, putIn, thereIn, lower, lowest, laterOf, twice, once, againAt, again, longAt, Plan, overlayHandles, raisedPast, hasLabels, readSymbols, knownReads, readsOf, planned, allowed, plan, apply}
-use Rattle.overlay_rules.specs.Laws.{Rising, In, Free, Off, Fewer}
-use Rattle.overlay_rules.proofs.Lists.{all-at, all-from, in-cases, in-left, in-right, in-map, in-map-from, in-joined, in-joined-from, in-pick, in-pick-from, some-false}
-use Rattle.overlay_rules.proofs.Looks.{place-not, is-phandle, holder-found}
-use Rattle.overlay_rules.proofs.Asking.{err-ok, ok-one, run-bind, asked-bind, Goes, goes, stop-none, stop-asks, Gave, gave, gave-from, gave-to, asked-each, each-asked}
-use Rattle.overlay_rules.proofs.Journals.{Distinct, look-out}
+use Rattle.tree.proofs.Maps.{some-none}
+use Rattle.overlay_rules.specs.Texts.{pick, zeroEnded}
+use Rattle.overlay_rules.specs.Overlays.{symbolsPath, phandleAt, Label, Target, byPath, byNumber, byLabel, Fragment, Overlay}
+use Rattle.overlay_rules.specs.Queries.{Query, done, ask, _>>=_, run, sought, asked, stopAt, forEach}
+use Rattle.overlay_rules.specs.Plans.{Known, labelled, known, Located, nodeThere, numberThere, located, images, Touch, there, put, ifThere, touch, putIn, lower, lowest, laterOf, twice, once, againAt, again, longAt, Plan, overlayHandles, raisedPast, readSymbols, knownReads, planned, allowed, plan}
+use Rattle.overlay_rules.specs.Laws.{Rising, In, Free}
+use Rattle.overlay_rules.proofs.Lists.{all-at, all-from, some-false}
+use Rattle.overlay_rules.proofs.Looks.{place-not, holder-found}
+use Rattle.overlay_rules.proofs.Asking.{ok-one, run-bind, asked-bind, goes, stop-none, stop-asks, Gave, gave, gave-to, asked-each}
+use Rattle.overlay_rules.proofs.Journals.{Distinct}
 
 -- ---- labels
 

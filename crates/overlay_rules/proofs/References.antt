@@ -1,38 +1,35 @@
 -- Right after a merge every reference points at the node that it is meant for. Assumes nothing.
 use mathlib.Core.Path.{_≡_, refl, sym, ap, subst, _∙_}
-use mathlib.Core.Bool.{Bool, true, false, cond, _&&_, true≢false}
-use mathlib.Core.List.{List, [], _∷_, _++_, map}
-use mathlib.Core.Logic.{_⊎_, inl, inr, ⊎-elim}
+use mathlib.Core.Bool.{Bool, true, false, cond, true≢false}
+use mathlib.Core.List.{List, [], _∷_, map}
+use mathlib.Core.Logic.{inl, inr, ⊎-elim}
 use Prim.Native.Nat.{ℕ, _+_, _<_, _≤_}
 use native.Mathlib.Omega.{arith}
 use lib.Chars.{codes}
 use lib.ListN.{length}
 use Rattle.std.specs.declared.option.Option.{Option}
 use Rattle.std.specs.declared.option.Option.the-variants.{None, Some}
-use Rattle.std.specs.declared.result.Result.the-variants.{Ok}
-use Rattle.std.specs.Finite.{All}
 use Rattle.std.specs.shelf.Text.{sameBytes}
 use Rattle.std.proofs.shelf.Equals.{sameBytes-decides}
-use Rattle.tree.specs.Entries.{Entry}
+use Rattle.tree.specs.Entries.{Entry, wellListed}
 use Rattle.tree.specs.Numbers.{be32, bytes32}
 use Rattle.tree.specs.Phandles.{isPhandle, handleOn, handles, holderOf}
 use Rattle.tree.specs.Places.{Bytes, Place, propertyAt}
 use Rattle.tree.specs.Trees.{Places, Tree, look}
 use Rattle.tree.proofs.Maps.{some-none, some-one}
-use Rattle.overlay_rules.specs.Texts.{some, pick, joined}
-use Rattle.overlay_rules.specs.Overlays.{phandleAt, valueAt, fragmentNodes, inBody, bodyEntries, Cell, Label, labelsOf, cellsOf, cellsAt, Item, Overlay, overlayOf}
-use Rattle.overlay_rules.specs.Checks.{handleIn, bodyHandles, wellListed}
-use Rattle.overlay_rules.specs.Queries.{run, forEach}
-use Rattle.overlay_rules.specs.Plans.{Known, labelled, known, Located, imageOf, cellNumber, filled, finalBytes, imageEntry, symbolEntry, images, putIn, itemPlaces, imageIf, meantBy, cellsIn, itemReferences, Reference, Plan, overlayHandles, planned, plan, apply}
+use Rattle.overlay_rules.specs.Texts.{joined}
+use Rattle.overlay_rules.specs.Overlays.{phandleAt, valueAt, fragmentNodes, inBody, bodyEntries, Cell, labelsOf, cellsOf, cellsAt, Item, Overlay, overlayOf}
+use Rattle.overlay_rules.specs.Checks.{handleIn, bodyHandles}
+use Rattle.overlay_rules.specs.Plans.{Known, labelled, known, imageOf, cellNumber, filled, finalBytes, imageEntry, symbolEntry, images, itemPlaces, imageIf, meantBy, cellsIn, itemReferences, Reference, Plan, overlayHandles, planned, apply}
 use Rattle.overlay_rules.specs.Laws.{Rising, In, Valid, Points}
 use Rattle.overlay_rules.proofs.Lists.{all-at, all-from, in-cases, in-left, in-map, in-map-from, in-joined-from, in-pick-from}
 use Rattle.overlay_rules.proofs.Looks.{Has, is-phandle, holder-has, has-holder}
 use Rattle.overlay_rules.proofs.Asking.{gave, gave-from, gave-to}
 use Rattle.overlay_rules.proofs.Journals.{Distinct, look-in}
-use Rattle.overlay_rules.proofs.Planning.{Labelled, labelled-is, Allowed, Planned}
+use Rattle.overlay_rules.proofs.Planning.{labelled-is, Planned}
 use Rattle.overlay_rules.proofs.Touching.{put-or-there, writes-is, plan-fewer}
-use Rattle.overlay_rules.proofs.Checking.{Passed, itemOf, item-from, items-valid}
-use Rattle.overlay_rules.proofs.Cells.{Cell-good, cell-good, cells-apart, cell-label, Within, Local}
+use Rattle.overlay_rules.proofs.Checking.{Passed, itemOf, item-from}
+use Rattle.overlay_rules.proofs.Cells.{cell-good, cells-apart, cell-label}
 use Rattle.overlay_rules.proofs.Filling.{Apart, length-filled, filled-cell}
 use Rattle.overlay_rules.proofs.Listing.{value-at}
 use Rattle.overlay_rules.proofs.Rules.{number-bytes, valid-most, member-handles, handle-raised, final-handle}

@@ -1,35 +1,30 @@
 -- Merging a checked overlay keeps the phandle rule. Assumes nothing.
 use mathlib.Core.Path.{_≡_, refl, sym, ap, subst, _∙_}
-use mathlib.Core.Bool.{Bool, true, false, cond, _&&_, true≢false}
-use mathlib.Core.List.{List, [], _∷_, _++_, map}
-use mathlib.Core.Logic.{_⊎_, inl, inr, ⊎-elim}
-use Prim.Native.Nat.{ℕ, _+_, _*_, _/_, _%_, _<_, _≤_}
+use mathlib.Core.Bool.{true, cond, true≢false}
+use mathlib.Core.List.{List, [], _∷_, map}
+use mathlib.Core.Logic.{inl, inr, ⊎-elim}
+use Prim.Native.Nat.{ℕ, _+_, _<_, _≤_}
 use native.Mathlib.Omega.{arith}
 use lib.Chars.{codes}
 use lib.Dec.{eqb, leb}
 use lib.ListN.{length}
-use Rattle.std.specs.declared.option.Option.{Option}
 use Rattle.std.specs.declared.option.Option.the-variants.{None, Some}
-use Rattle.std.specs.declared.result.Result.the-variants.{Ok}
-use Rattle.std.specs.Finite.{All}
 use Rattle.std.proofs.shelf.Tests.{and-parts, and-from, le-leb, leb-true}
 use Rattle.tree.specs.Entries.{Entry}
 use Rattle.tree.specs.Numbers.{be32, bytes32}
-use Rattle.tree.specs.Phandles.{isPhandle, handleOn, handles, validHandle, largestPhandle}
+use Rattle.tree.specs.Phandles.{isPhandle, handleOn, handles, validHandle}
 use Rattle.tree.specs.Places.{Bytes, Place, propertyAt}
 use Rattle.tree.specs.Trees.{Places, Tree, look}
 use Rattle.tree.proofs.Maps.{some-none, some-one}
-use Rattle.overlay_rules.specs.Overlays.{symbolsPath, phandleAt, Item, Symbol, Overlay, overlayOf}
-use Rattle.overlay_rules.specs.Checks.{check}
-use Rattle.overlay_rules.specs.Queries.{run}
-use Rattle.overlay_rules.specs.Plans.{Known, Located, imageOf, finalBytes, filled, imageEntry, symbolEntry, images, itemPlaces, overlayHandles, Plan, plan, apply}
+use Rattle.overlay_rules.specs.Overlays.{symbolsPath, phandleAt, Item, Overlay, overlayOf}
+use Rattle.overlay_rules.specs.Plans.{Known, Located, imageOf, finalBytes, filled, imageEntry, symbolEntry, images, itemPlaces, overlayHandles, Plan, apply}
 use Rattle.overlay_rules.specs.Laws.{Rising, In, Valid, Unique}
 use Rattle.overlay_rules.proofs.Lists.{all-at, in-cases, in-left, in-right, in-map, in-map-from}
-use Rattle.overlay_rules.proofs.Looks.{is-phandle, Has, at-most-largest}
+use Rattle.overlay_rules.proofs.Looks.{Has}
 use Rattle.overlay_rules.proofs.Journals.{look-from}
-use Rattle.overlay_rules.proofs.Planning.{Planned, plan-is}
+use Rattle.overlay_rules.proofs.Planning.{Planned}
 use Rattle.overlay_rules.proofs.Touching.{put-from, writes-is}
-use Rattle.overlay_rules.proofs.Checking.{Passed, passed, items-valid, items-one, Symbol-from, symbol-from}
+use Rattle.overlay_rules.proofs.Checking.{Passed, items-valid, items-one, symbol-from}
 
 -- ---- numbers in four bytes
 

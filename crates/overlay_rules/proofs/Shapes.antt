@@ -1,26 +1,22 @@
 -- Trees by the rules but for their counts, and writes that keep them so. Assumes nothing.
 use mathlib.Core.Path.{_≡_, refl, sym, ap, subst, _∙_}
-use mathlib.Core.Bool.{Bool, true, false, _&&_}
-use mathlib.Core.List.{List, [], _∷_, _++_, map}
+use mathlib.Core.Bool.{true}
+use mathlib.Core.List.{List, [], _∷_, _++_}
 use mathlib.Core.Logic.{_⊎_, inl, inr, ⊎-elim}
 use Prim.Native.Nat.{ℕ, _+_, _≤_, _<_, _^_}
 use native.Mathlib.Omega.{arith}
-use lib.Dec.{leb}
-use lib.ListN.{length}
-use Rattle.std.specs.declared.option.Option.{Option}
 use Rattle.std.specs.declared.option.Option.the-variants.{None, Some}
 use Rattle.std.proofs.shelf.Tests.{and-from, le-leb}
 use Rattle.names.specs.Paths.{root}
 use Rattle.tree.specs.Entries.{Entry, listed}
-use Rattle.tree.specs.Maps.{find, upd, worth, total}
-use Rattle.tree.specs.Places.{Bytes, Place, nodeAt, order}
-use Rattle.tree.specs.Trees.{Places, Tree, look, change, nodeCount, propertyCount, weigh, nodes, properties, weight, shortPlace, namedPlace, upPlace, Sound}
-use Rattle.tree.proofs.Maps.{some-none, some-one, total-upd}
+use Rattle.tree.specs.Maps.{total}
+use Rattle.tree.specs.Places.{Bytes, Place, nodeAt}
+use Rattle.tree.specs.Trees.{Tree, look, change, nodes, properties, weight, shortPlace, namedPlace, upPlace, Sound}
+use Rattle.tree.proofs.Maps.{some-one, total-upd}
 use Rattle.tree.proofs.Places.{place-order}
 use Rattle.overlay_rules.specs.Plans.{apply}
-use Rattle.overlay_rules.specs.Laws.{Rising, In}
+use Rattle.overlay_rules.specs.Laws.{Rising}
 use Rattle.overlay_rules.proofs.Looks.{look-same, look-other, rises-change, boot-change, decide-place}
-use Rattle.overlay_rules.proofs.Journals.{rises-apply}
 
 pub record Shape (t : Tree) : Type 0 where
   pub rises : Rising t

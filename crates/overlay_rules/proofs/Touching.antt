@@ -1,29 +1,28 @@
 -- What a plan reads and writes, what it asks, and its record. Assumes nothing.
 use mathlib.Core.Path.{_≡_, refl, sym, ap, subst, _∙_}
-use mathlib.Core.Bool.{Bool, true, false, cond, _||_, true≢false}
+use mathlib.Core.Bool.{Bool, true, false, cond, true≢false}
 use mathlib.Core.List.{List, [], _∷_, _++_, map}
 use mathlib.Core.Logic.{_⊎_, inl, inr, ⊎-elim}
 use Prim.Native.Nat.{ℕ}
-use Rattle.std.specs.declared.option.Option.{Option}
 use Rattle.std.specs.declared.option.Option.the-variants.{None, Some}
-use Rattle.std.specs.declared.result.Result.the-variants.{Ok, Err}
+use Rattle.std.specs.declared.result.Result.the-variants.{Ok}
 use Rattle.std.specs.Finite.{All}
-use Rattle.std.proofs.shelf.Tests.{or-parts}
-use Rattle.tree.specs.Entries.{Entry}
+use Rattle.tree.specs.Entries.{Entry, samePlace, some}
 use Rattle.tree.specs.Places.{Bytes, Place, nodeAt}
 use Rattle.tree.specs.Trees.{Tree, look, change}
+use Rattle.tree.proofs.Listed.{same-only}
 use Rattle.tree.proofs.Maps.{some-none, some-one}
-use Rattle.overlay_rules.specs.Texts.{some, pick, joined}
-use Rattle.overlay_rules.specs.Overlays.{symbolsPath, phandleAt, samePlace, Overlay}
-use Rattle.overlay_rules.specs.Queries.{Query, done, ask, run, asked, forEach}
-use Rattle.overlay_rules.specs.Plans.{Known, labelled, Located, located, images, Touch, there, put, touch, putIn, thereIn, once, Plan, hasLabels, readSymbols, knownReads, readsOf, planned, plan, allowed, apply}
-use Rattle.overlay_rules.specs.Records.{Mark, wasRead, created, earlier, Note, distinct, markOf, readNote, writeNote, notes, putBack, restore, written, wrote, touches}
-use Rattle.overlay_rules.specs.Laws.{Rising, In, Free, Off, Fewer, Unique, Same-at, Writes-at, Asks, Asks-what-it-reads, Decided-by-reads}
-use Rattle.overlay_rules.proofs.Lists.{all-at, all-from, all-left, all-right, in-cases, in-left, in-right, in-map, in-map-from, in-joined, in-joined-from, in-pick, in-pick-from, some-false, some-true, some-in, none-some}
-use Rattle.overlay_rules.proofs.Looks.{place-not, place-from, same-place, decide-place}
+use Rattle.overlay_rules.specs.Texts.{pick, joined}
+use Rattle.overlay_rules.specs.Overlays.{symbolsPath, phandleAt, Overlay}
+use Rattle.overlay_rules.specs.Queries.{done, ask, run, asked, forEach}
+use Rattle.overlay_rules.specs.Plans.{labelled, Located, located, images, Touch, touch, putIn, thereIn, once, Plan, hasLabels, readSymbols, knownReads, readsOf, planned, plan, allowed, apply}
+use Rattle.overlay_rules.specs.Records.{Note, distinct, markOf, readNote, writeNote, notes, putBack, restore, written, wrote}
+use Rattle.overlay_rules.specs.Laws.{Rising, In, Free, Fewer, Writes-at, Asks-what-it-reads, Decided-by-reads}
+use Rattle.overlay_rules.proofs.Lists.{all-at, all-from, in-cases, in-left, in-right, in-map, in-map-from, in-joined, in-joined-from, in-pick, in-pick-from, some-false, some-true}
+use Rattle.overlay_rules.proofs.Looks.{place-not}
 use Rattle.overlay_rules.proofs.Asking.{run-same, gave, gave-from, gave-to, asked-each, each-asked}
 use Rattle.overlay_rules.proofs.Journals.{look-out, back}
-use Rattle.overlay_rules.proofs.Planning.{Labelled, labelled-is, Located-at, located-is, Was, New, touch-is, Allowed, touchAll, Planned, plan-is}
+use Rattle.overlay_rules.proofs.Planning.{labelled-is, located-is, Was, New, touch-is, touchAll, Planned, plan-is}
 
 put-one : {x y : Entry} → Some x ≡ Some y → x ≡ y
 put-one e = cc
@@ -184,7 +183,7 @@ distinct-in seen [] k i = absurd i
 distinct-in seen (j ∷ ks) k i = go (some (samePlace j) seen) refl (distinct-in seen ks k) (distinct-in (j ∷ seen) ks k) i
   where
     go : (b : Bool) → some (samePlace j) seen ≡ b → (In k ks → In k seen ⊎ In k (distinct seen ks)) → (In k ks → In k (j ∷ seen) ⊎ In k (distinct (j ∷ seen) ks)) → In k (j ∷ ks) → In k seen ⊎ In k (cond b (distinct seen ks) (j ∷ distinct (j ∷ seen) ks))
-    go true e ih jh (inl p) = let x = some-true (samePlace j) seen e in inl (subst (λ z. In z seen) (sym (place-from j (x .0) (x .2)) ∙ sym p) (x .1))
+    go true e ih jh (inl p) = let x = some-true (samePlace j) seen e in inl (subst (λ z. In z seen) (sym (same-only j (x .0) (x .2)) ∙ sym p) (x .1))
     go true e ih jh (inr i) = ih i
     go false e ih jh (inl p) = inr (inl p)
     go false e ih jh (inr i) = ⊎-elim (λ a. here a) (λ a. inr (inr a)) (jh i)
@@ -228,7 +227,7 @@ wrote-some p t k h =
     let y = in-map-from (writeNote t) (x .0) (p .writes) a in
     let b : cond (written (markOf t (y .0 .place))) (samePlace (y .0 .place) k) false ≡ true = ap (λ z. cond (written (z .mark)) (samePlace (z .place) k) false) (sym (y .2)) ∙ x .2 in
     let c : samePlace (y .0 .place) k ≡ true = subst (λ w. cond w (samePlace (y .0 .place) k) false ≡ true) (mark-written t (y .0 .place)) b in
-    (y .0, y .1, sym (place-from (y .0 .place) k c)))
+    (y .0, y .1, sym (same-only (y .0 .place) k c)))
     (in-cases (x .0) (map readNote (distinct [] (p .reads))) (map (writeNote t) (p .writes)) (x .1))
 
 -- ---- restoring by the record is putting back what the tree had

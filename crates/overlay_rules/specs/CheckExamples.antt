@@ -2,14 +2,13 @@
 use mathlib.Core.Path.{_≡_}
 use mathlib.Core.Bool.{true}
 use mathlib.Core.List.{List, [], _∷_, _++_}
-use Prim.Native.Nat.{ℕ}
 use lib.Chars.{codes}
 use lib.ListN.{replicate}
 use Rattle.std.specs.declared.option.Option.the-variants.{None, Some}
-use Rattle.tree.specs.Entries.{Entry}
+use Rattle.tree.specs.Entries.{Entry, wellListed}
 use Rattle.tree.specs.Numbers.{bytes32}
 use Rattle.tree.specs.Places.{Bytes}
-use Rattle.overlay_rules.specs.Checks.{check, wellListed}
+use Rattle.overlay_rules.specs.Checks.{check}
 use Rattle.overlay_rules.specs.Samples.{node, property, text, fragment, toPath, toNumber, fixup, onBody, onCell}
 
 -- an overlay with a fixup, a local fixup and a symbol

@@ -1,49 +1,25 @@
 -- The check of an overlay: the first refusal, with the place of the first token at fault. Assumes nothing.
-use mathlib.Core.Path.{_≡_}
-use mathlib.Core.Bool.{Bool, true, false, cond, not, _&&_, _||_}
-use mathlib.Core.List.{List, [], _∷_, _++_, map}
+use mathlib.Core.Bool.{Bool, false, cond, not, _&&_, _||_}
+use mathlib.Core.List.{List, [], _∷_, _++_}
 use Prim.Native.Nat.{ℕ, _+_, _%_}
 use lib.Chars.{codes}
 use lib.Dec.{leb, ltb, eqb}
 use lib.ListN.{length}
 use Rattle.std.specs.declared.option.Option.{Option}
 use Rattle.std.specs.declared.option.Option.the-variants.{None, Some}
-use Rattle.std.specs.Options.{isSome}
 use Rattle.std.specs.shelf.Text.{sameBytes}
 use Rattle.names.specs.Names.{each}
-use Rattle.names.specs.Paths.{root, pathText}
-use Rattle.tree.specs.Entries.{Entry}
+use Rattle.names.specs.Paths.{pathText}
+use Rattle.tree.specs.Entries.{Entry, some}
 use Rattle.tree.specs.Numbers.{be32}
 use Rattle.tree.specs.Phandles.{isPhandle, validHandle}
 use Rattle.tree.specs.Places.{Bytes, Place, nodeAt, propertyAt}
-use Rattle.tree.specs.Trees.{namedPlace, shortPlace, upPlace}
-use Rattle.overlay_rules.specs.Texts.{some, pick, zeroEnded, split, behind}
-use Rattle.overlay_rules.specs.Overlays.{symbolsPath, fixupsPath, localsPath, targetAt, targetPathAt, samePlace, valueAt, isListed, fragmentNodes, inBody, bodyEntries, Spot, spotOf, strings, spots, numbers, localsBehind}
+use Rattle.overlay_rules.specs.Texts.{pick, zeroEnded, split, behind}
+use Rattle.overlay_rules.specs.Overlays.{symbolsPath, fixupsPath, localsPath, targetAt, targetPathAt, valueAt, isListed, fragmentNodes, inBody, bodyEntries, Spot, spotOf, strings, spots, numbers, localsBehind}
 
 -- a refusal: its number, and its place
 abbrev pub Refusal : Type 0
 Refusal = ℕ × ℕ
-
--- ---- what the reader of a blob establishes of the entries, in blob order
-
-abbrev pub bare : Place → Bytes → Bool
-bare (p, None) v = eqb (length v) 0
-bare (p, Some n) v = true
-
--- named by the rules, within the sizes, at a place of its own, behind what it hangs on
-abbrev pub listedNext : List Place → Entry → Bool
-listedNext seen e =
-    (namedPlace (e .place) && (shortPlace (e .place) (e .value) && bare (e .place) (e .value)))
-    && (not (some (samePlace (e .place)) seen) && some (samePlace (upPlace (e .place))) seen)
-
-unfoldable pub listedFrom : List Place → List Entry → Bool
-listedFrom seen [] = true
-listedFrom seen (e ∷ es) = listedNext seen e && listedFrom (e .place ∷ seen) es
-
--- the root's node first, then all else in a good order
-abbrev pub wellListed : List Entry → Bool
-wellListed [] = false
-wellListed (e ∷ es) = samePlace (e .place) (nodeAt root) && (eqb (length (e .value)) 0 && listedFrom (nodeAt root ∷ []) es)
 
 -- ---- faults
 

@@ -5,6 +5,8 @@ pub mod Queries
 pub mod Plans
 pub mod Records
 pub mod Laws
+pub mod Merges
+pub mod Steps
 pub mod Samples
 pub mod CheckExamples
 pub mod PlanExamples

@@ -1,22 +1,18 @@
 -- An overlay, read off the located entries of its blob. Assumes nothing.
-use mathlib.Core.Path.{_≡_}
-use mathlib.Core.Bool.{Bool, true, false, cond, not, _&&_, _||_}
+use mathlib.Core.Bool.{Bool, cond, not, _&&_, _||_}
 use mathlib.Core.List.{List, [], _∷_, _++_, map}
 use Prim.Native.Nat.{ℕ, _/_, zero, suc}
 use lib.Chars.{codes}
-use lib.Dec.{leb, eqb}
 use lib.ListN.{length, drop}
 use Rattle.std.specs.declared.option.Option.{Option}
 use Rattle.std.specs.declared.option.Option.the-variants.{None, Some}
 use Rattle.std.specs.Options.{isSome}
-use Rattle.std.specs.Orderings.{isEq}
 use Rattle.std.specs.shelf.Text.{sameBytes}
 use Rattle.names.specs.Paths.{root, parent}
-use Rattle.tree.specs.Entries.{Entry}
+use Rattle.tree.specs.Entries.{Entry, samePlace, some}
 use Rattle.tree.specs.Numbers.{be32}
-use Rattle.tree.specs.Phandles.{isPhandle}
-use Rattle.tree.specs.Places.{Bytes, Place, nodeAt, propertyAt, order}
-use Rattle.overlay_rules.specs.Texts.{some, pick, joined, zeroEnded, split, decimal, behind}
+use Rattle.tree.specs.Places.{Bytes, Place, nodeAt, propertyAt}
+use Rattle.overlay_rules.specs.Texts.{pick, joined, zeroEnded, split, decimal, behind}
 
 -- ---- places of an overlay
 
@@ -45,9 +41,6 @@ special p = sameBytes p symbolsPath || (sameBytes p fixupsPath || sameBytes p lo
 -- a fragment's body is its child `__overlay__`, and all below
 abbrev pub bodyPath : Bytes → Bytes
 bodyPath p = p ++ codes "/__overlay__"
-
-abbrev pub samePlace : Place → Place → Bool
-samePlace k l = isEq (order k l)
 
 -- the value at a place, if it is listed
 unfoldable pub valueAt : List Entry → Place → Option Bytes

@@ -15,7 +15,7 @@ use Rattle.overlay_rules.specs.Checks.{Refusal, check}
 use Rattle.overlay_rules.specs.Overlays.{overlayOf}
 use Rattle.overlay_rules.specs.Plans.{Plan, plan}
 use Rattle.overlay_rules.specs.Queries.{run}
-use Rattle.overlay_rules.specs.Samples.{node, property, text, fragment, toPath, toNumber, fixup, onBody, base, baseWith, addsCell, setsAt, setsOn, addsChild}
+use Rattle.overlay_rules.specs.Samples.{node, property, text, fragment, toPath, toNumber, fixup, onBody, base, baseWith, setsAt, setsOn, addsChild}
 
 abbrev pub planOn : Tree → List Entry → ℕ → Result Plan Refusal
 planOn t es d = run t (plan (overlayOf es) d)

@@ -1,23 +1,22 @@
 -- The plan of a merge at an offset, as questions to the tree before the merge, and the merge. Assumes nothing.
-use mathlib.Core.Path.{_≡_}
-use mathlib.Core.Bool.{Bool, true, false, cond, not, _&&_, _||_}
+use mathlib.Core.Bool.{Bool, true, false, cond, _||_}
 use mathlib.Core.List.{List, [], _∷_, _++_, map}
 use Prim.Native.Nat.{ℕ, _+_, max, min}
-use lib.Dec.{leb, ltb, eqb}
+use lib.Dec.{ltb}
 use lib.ListN.{length, take, drop}
 use Rattle.std.specs.declared.option.Option.{Option}
 use Rattle.std.specs.declared.option.Option.the-variants.{None, Some}
 use Rattle.std.specs.shelf.Text.{sameBytes}
 use Rattle.names.specs.Paths.{under}
-use Rattle.tree.specs.Entries.{Entry, listed}
+use Rattle.tree.specs.Entries.{Entry, listed, samePlace, some}
 use Rattle.tree.specs.Maps.{total}
 use Rattle.tree.specs.Numbers.{be32, bytes32}
 use Rattle.tree.specs.Phandles.{isPhandle, handles, holderOf}
 use Rattle.tree.specs.Places.{Bytes, Place, nodeAt, propertyAt}
 use Rattle.tree.specs.Trees.{Places, Tree, change, nodeCount, propertyCount, weigh}
-use Rattle.overlay_rules.specs.Texts.{some, pick, joined, zeroEnded, behind}
-use Rattle.overlay_rules.specs.Overlays.{symbolsPath, phandleAt, samePlace, Cell, Label, Target, byPath, byNumber, byLabel, Fragment, Item, Symbol, Overlay}
-use Rattle.overlay_rules.specs.Queries.{Query, done, refuse, ask, seek, _>>=_, need, stopAt, forEach}
+use Rattle.overlay_rules.specs.Texts.{pick, joined, zeroEnded, behind}
+use Rattle.overlay_rules.specs.Overlays.{symbolsPath, phandleAt, Cell, Label, Target, byPath, byNumber, byLabel, Fragment, Item, Symbol, Overlay}
+use Rattle.overlay_rules.specs.Queries.{Query, done, ask, seek, _>>=_, need, stopAt, forEach}
 
 -- ---- labels: the tree's symbol is a path and a zero byte, and that node has a phandle
 

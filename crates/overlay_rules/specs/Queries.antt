@@ -1,5 +1,4 @@
 -- A computation that reads a tree only by questions, so that what it reads is known by its construction. Assumes nothing.
-use mathlib.Core.Path.{_≡_}
 use mathlib.Core.List.{List, [], _∷_, _++_}
 use Prim.Native.Nat.{ℕ}
 use Rattle.std.specs.declared.option.Option.{Option}

@@ -1,16 +1,13 @@
 -- The record of a merge: one entry for each touched place, and what it takes to restore the tree. Assumes nothing.
-use mathlib.Core.Path.{_≡_}
 use mathlib.Core.Bool.{Bool, true, false, cond}
 use mathlib.Core.List.{List, [], _∷_, _++_, map}
 use Prim.Native.Nat.{ℕ, _+_}
 use lib.ListN.{length}
 use Rattle.std.specs.declared.option.Option.{Option}
 use Rattle.std.specs.declared.option.Option.the-variants.{None, Some}
-use Rattle.tree.specs.Entries.{Entry}
+use Rattle.tree.specs.Entries.{Entry, samePlace, some}
 use Rattle.tree.specs.Places.{Bytes, Place}
 use Rattle.tree.specs.Trees.{Tree, look, change}
-use Rattle.overlay_rules.specs.Texts.{some}
-use Rattle.overlay_rules.specs.Overlays.{samePlace}
 use Rattle.overlay_rules.specs.Plans.{Plan}
 
 -- read; a node created; or what value a property had before, if any

@@ -1,5 +1,5 @@
 -- Texts in the values of an overlay: strings that end with a zero byte, decimal numbers. Assumes nothing.
-use mathlib.Core.Bool.{Bool, true, false, cond, not, _&&_, _||_}
+use mathlib.Core.Bool.{Bool, true, cond, not, _&&_, _||_}
 use mathlib.Core.List.{List, [], _∷_, _++_}
 use Prim.Native.Nat.{ℕ, _+_, _-_, _*_}
 use lib.Dec.{leb, eqb}
@@ -9,11 +9,6 @@ use Rattle.std.specs.declared.option.Option.the-variants.{None, Some}
 use Rattle.std.specs.shelf.Text.{sameBytes}
 use Rattle.names.specs.Names.{each, inRange}
 use Rattle.tree.specs.Places.{Bytes}
-
--- one of them passes
-abbrev pub some : {A : Type 0} → (A → Bool) → List A → Bool
-some p [] = false
-some p (x ∷ xs) = p x || some p xs
 
 -- what the elements give that give something
 abbrev pub given : {A : Type 0} → Option A → List A → List A

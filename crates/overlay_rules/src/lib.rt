@@ -1,6 +1,8 @@
 // The rules of overlays, as definitions in specs/. This code only names the theorems, so that the check demands their proofs.
 ghost use Rattle.overlay_rules.specs.CheckExamples.{Check-examples};
+ghost use Rattle.overlay_rules.specs.Merges.{Merges-by-steps};
 ghost use Rattle.overlay_rules.specs.PlanExamples.{Plan-examples};
+ghost use Rattle.overlay_rules.specs.Steps.{In-steps};
 ghost use Rattle.overlay_rules.specs.Laws.{Asks-what-it-reads, Decided-by-reads, Records-what-it-touches};
 
 // The check of small overlays, one for each refusal, computed.
@@ -34,6 +36,20 @@ pub fn decided_by_reads() -> u8
 // The record has one entry for each place that is read or written, and no place is both.
 pub fn records_what_it_touches() -> u8
     ensures { λ _. ⌜ Records-what-it-touches ⌝ }
+{
+    0
+}
+
+// A plan as passes with early refusals, each after the other.
+pub fn plan_goes_in_steps() -> u8
+    ensures { λ _. ⌜ In-steps ⌝ }
+{
+    0
+}
+
+// What a merge leaves, by the five steps of the rules, and that all else stays.
+pub fn merge_goes_by_the_rules() -> u8
+    ensures { λ _. ⌜ Merges-by-steps ⌝ }
 {
     0
 }
