@@ -13,6 +13,8 @@ use Rattle.tree.specs.Entries.{Entry, listed, treeOf, wellListed}
 use Rattle.tree.specs.Trees.{roomy, Sound}
 use Rattle.tree.proofs.Listed.{listed-sound}
 use Rattle.std.proofs.shelf.Tests.{and-parts}
+use Rattle.reader.specs.Handing.{namedTokens, until}
+use Rattle.reader.proofs.Handing.{root-named}
 use Rattle.reader.proofs.Listed.{root-listed}
 use Rattle.blob.specs.Grammar.{Header, IsToken}
 use Rattle.blob.specs.Header.{header}
@@ -26,7 +28,7 @@ use Rattle.blob.proofs.Shapes.{token-sound, token-complete, token-ahead}
 use Rattle.reader.specs.declared.counts.Counts.{Counts}
 use Rattle.reader.specs.Verdict.{verdict, none}
 use Rattle.reader.specs.Format.{Spelt, Fills, fill-none, fill-more, kept, Root, Blob, within}
-use Rattle.reader.specs.Reading.{sound, entries, entriesOf, given, structure, reading, Tally, Exact}
+use Rattle.reader.specs.Reading.{sound, entries, tokensOf, entriesOf, given, structure, reading, Tally, Exact}
 use Rattle.reader.proofs.Accepted.{raw, kept-raw, lexed, Whole, accepted-whole}
 use Rattle.reader.proofs.Complete.{somes, verdict-kept, sound-somes, root-read, root-entries}
 use Rattle.reader.proofs.Tallied.{plus}
@@ -109,6 +111,9 @@ module _ (bs : Bytes) (l : Layout) (c : Counts) (v : verdict [] none (tokensFrom
 
   pub ordered : wellListed (entriesOf bs l) ≡ true
   ordered = root-listed (whole .tree) (whole .within)
+
+  pub called : namedTokens (until (tokensOf bs l)) ≡ true
+  called = root-named (whole .tree)
 
   pub grown : l .boot < 2 ^ 32 → Sound (treeOf (l .boot) (entriesOf bs l))
   grown b = listed-sound (l .boot) (entriesOf bs l) ordered (and-parts (roomy (listed (entriesOf bs l))) _ (whole .within) .0) b

@@ -1,6 +1,10 @@
 -- The tokens that are handed out, one at a time. Assumes nothing.
 use mathlib.Core.Path.{_≡_}
+use mathlib.Core.Bool.{Bool, true, false, _&&_}
 use mathlib.Core.List.{List, [], _∷_}
+use lib.Dec.{eqb}
+use lib.ListN.{length}
+use Rattle.names.specs.Names.{each, nodeName}
 use Prim.Native.Nat.{ℕ}
 use Rattle.std.specs.declared.option.Option.{Option}
 use Rattle.std.specs.declared.option.Option.the-variants.{Some, None}
@@ -45,6 +49,26 @@ Sought bs l p (Some f) = ahead bs l p ≡ itemOf (f .item) ∷ ahead bs l (f .ne
 abbrev pub Handed : Option Item → Spelt → Spelt → Type 0
 Handed None was is = (was ≡ []) × (is ≡ [])
 Handed (Some i) was is = was ≡ itemOf i ∷ is
+
+-- a node's name is one by the rules
+abbrev pub namedItem : ℕ × Tok → Bool
+namedItem (p, begin name) = nodeName name
+namedItem (p, property name value) = true
+namedItem (p, end) = true
+namedItem (p, nop) = true
+namedItem (p, finish) = true
+
+abbrev pub isRoot : ℕ × Tok → Bool
+isRoot (p, begin name) = eqb (length name) 0
+isRoot (p, property name value) = false
+isRoot (p, end) = false
+isRoot (p, nop) = false
+isRoot (p, finish) = false
+
+-- the root's beginning comes first, and all other nodes have names
+abbrev pub namedTokens : Spelt → Bool
+namedTokens [] = false
+namedTokens (x ∷ xs) = isRoot x && each namedItem xs
 
 -- a cursor at the start of a blob's tokens: what it will hand out, and that these are the entries
 pub record Starts (bs : Bytes) (l : Layout) (xs : Spelt) : Type 0 where

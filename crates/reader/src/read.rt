@@ -12,7 +12,8 @@ ghost use Rattle.tree.specs.Trees.{Sound};
 ghost use Rattle.blob.specs.Header.{header};
 ghost use Rattle.blob.specs.Tokens.{begin, property, tokenAt};
 ghost use Rattle.reader.specs.Passing.{Bounded, Named, Restored, from, Passed, Noted};
-ghost use Rattle.reader.specs.Reading.{entriesOf, reading, readOf, Tally, Exact};
+ghost use Rattle.reader.specs.Handing.{namedTokens, until};
+ghost use Rattle.reader.specs.Reading.{entriesOf, tokensOf, reading, readOf, Tally, Exact};
 ghost use Rattle.reader.specs.Seen.{Spells};
 ghost use Rattle.std.specs.Vec.{made};
 ghost use Rattle.reader.specs.Verdict.{opened, kids, none};
@@ -192,6 +193,7 @@ pub fn read(bytes: &[u8]) -> Result<Flat<'_>, Refusal>
     ensures layout { λ r. ⌜ made r (λ f. header (now (bytes .entry)) ≡ Ok (f .layout)) ⌝ }
     ensures counts { λ r. ⌜ made r (λ f. Tally (f .counts) (entriesOf (now (bytes .entry)) (f .layout))) ⌝ }
     ensures listed { λ r. ⌜ made r (λ f. wellListed (entriesOf (now (bytes .entry)) (f .layout)) ≡ true) ⌝ }
+    ensures named { λ r. ⌜ made r (λ f. namedTokens (until (tokensOf (now (bytes .entry)) (f .layout))) ≡ true) ⌝ }
     ensures tree { λ r. ⌜ made r (λ f. Sound (treeOf (f .layout .boot) (entriesOf (now (bytes .entry)) (f .layout)))) ⌝ }
     ensures exact { λ _. ⌜ Exact (now (bytes .entry)) ⌝ }
 {

@@ -5,13 +5,13 @@ use native.Mathlib.Omega.{arith}
 use Rattle.std.proofs.shelf.Results.{err-from-errBy}
 use Rattle.tree.specs.Entries.{Entry}
 use Rattle.reader.specs.Reading.{given, structure, entriesOf}
-use Rattle.reader.proofs.Exact.{exact, tallied, ordered, grown}
+use Rattle.reader.proofs.Exact.{exact, tallied, ordered, called, grown}
 use Rattle.reader.proofs.read.read.Needs as need
 
 pub returns-in-Break-layout : need.returns-in-Break-layout
 returns-in-Break-layout c =
     let r = err-from-errBy (c .from-residual .result) (c .from-residual .ensures .1) in
-    rw (r .1, r .2) (record { value = ap (structure (c .args .bytes .now)) (c .in-Break-layout .ensures tt .value); bytes = tt; layout = tt; counts = tt; listed = tt; tree = tt; exact = exact (c .args .bytes .now) })
+    rw (r .1, r .2) (record { value = ap (structure (c .args .bytes .now)) (c .in-Break-layout .ensures tt .value); bytes = tt; layout = tt; counts = tt; listed = tt; named = tt; tree = tt; exact = exact (c .args .bytes .now) })
 
 pub returns-in-Break-counts : need.returns-in-Break-counts
 returns-in-Break-counts c =
@@ -24,6 +24,7 @@ returns-in-Break-counts c =
       layout = tt;
       counts = tt;
       listed = tt;
+      named = tt;
       tree = tt;
       exact = exact (c .args .bytes .now);
     })
@@ -37,6 +38,7 @@ returns c =
       layout = sym (c .in-Continue-layout .ensures tt .value);
       counts = tallied (c .args .bytes .now) l (c .in-Continue-counts .counts) (sym (c .in-Continue-counts .ensures tt));
       listed = ordered (c .args .bytes .now) l (c .in-Continue-counts .counts) (sym (c .in-Continue-counts .ensures tt));
+      named = called (c .args .bytes .now) l (c .in-Continue-counts .counts) (sym (c .in-Continue-counts .ensures tt));
       tree = grown (c .args .bytes .now) l (c .in-Continue-counts .counts) (sym (c .in-Continue-counts .ensures tt)) (omega arith);
       exact = exact (c .args .bytes .now);
     }

@@ -1,0 +1,4 @@
+mod Arranging
+mod Collecting
+mod Paging
+mod Shows

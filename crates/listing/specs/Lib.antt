@@ -1,0 +1,3 @@
+pub mod Page
+pub mod Rows
+pub mod Shown
