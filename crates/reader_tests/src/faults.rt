@@ -9,6 +9,7 @@ use Part::Property;
 use Part::PropertyAt;
 use Part::Skipped as Skip;
 use Part::Text;
+use std::alloc::Global;
 use std::test::*;
 
 const ROOT: Part<'static> = Begin(b"");
@@ -32,25 +33,32 @@ fn skipped_tokens(rt: LibcRuntime) -> Result<(), Fail> {
     check_eq(verdict_of(rt.alloc(), &parts)?, (0, 2))
 }
 
+// These parts make a blob that is so refused.
+fn refused(heap: Global, parts: &[Part], number: u32, place: usize) -> Result<(), Fail> {
+    check_eq(verdict_of(heap, parts)?, (number, place))
+}
+
+// Nothing, no root, no end of the block, a second root, and a root with a name.
 #[test]
 fn roots(rt: LibcRuntime) -> Result<(), Fail> {
     let heap = rt.alloc();
-    check_eq(verdict_of(heap, &[])?, (13, 56)).note("an empty block")?;
-    check_eq(verdict_of(heap, &[Finish])?, (13, 56)).note("no root")?;
-    check_eq(verdict_of(heap, &[ROOT, End])?, (13, 68)).note("no end of the block")?;
-    check_eq(verdict_of(heap, &[ROOT, End, ROOT, End, Finish])?, (13, 68)).note("a second root")?;
-    check_eq(verdict_of(heap, &[Begin(b"r"), End, Finish])?, (14, 56)).note("a named root")
+    refused(heap, &[], 13, 56)?;
+    refused(heap, &[Finish], 13, 56)?;
+    refused(heap, &[ROOT, End], 13, 68)?;
+    refused(heap, &[ROOT, End, ROOT, End, Finish], 13, 68)?;
+    refused(heap, &[Begin(b"r"), End, Finish], 14, 56)
 }
 
+// A property behind a node, one outside, an end too many, the end of the block in the root, and too early.
 #[test]
 fn out_of_place(rt: LibcRuntime) -> Result<(), Fail> {
     let heap = rt.alloc();
-    let late = [ROOT, Begin(b"a"), End, Property(b"p", b""), End, Finish];
-    check_eq(verdict_of(heap, &late)?, (13, 76)).note("a property behind a node")?;
-    check_eq(verdict_of(heap, &[Property(b"p", b"")])?, (13, 56)).note("a property outside")?;
-    check_eq(verdict_of(heap, &[ROOT, End, End, Finish])?, (13, 68)).note("an end too many")?;
-    check_eq(verdict_of(heap, &[ROOT, Finish])?, (13, 64)).note("the end in the root")?;
-    check_eq(verdict_of(heap, &[ROOT, End, Finish, Finish])?, (13, 68)).note("the end too early")
+    let p = Property(b"p", b"");
+    refused(heap, &[ROOT, Begin(b"a"), End, p, End, Finish], 13, 76)?;
+    refused(heap, &[p], 13, 56)?;
+    refused(heap, &[ROOT, End, End, Finish], 13, 68)?;
+    refused(heap, &[ROOT, Finish], 13, 64)?;
+    refused(heap, &[ROOT, End, Finish, Finish], 13, 68)
 }
 
 #[test]
@@ -64,11 +72,11 @@ fn unknown_tokens(rt: LibcRuntime) -> Result<(), Fail> {
     Ok(())
 }
 
+// A name without its zero byte, a value that passes the block, and a property without its name's offset.
 #[test]
 fn cut_tokens(rt: LibcRuntime) -> Result<(), Fail> {
     let heap = rt.alloc();
-    let open = [ROOT, Number(1), Number(0x6162_6364)];
-    check_eq(verdict_of(heap, &open)?, (13, 64)).note("a name without its zero byte")?;
+    refused(heap, &[ROOT, Number(1), Number(0x6162_6364)], 13, 64)?;
     let long = [
         ROOT,
         Number(3),
@@ -76,8 +84,8 @@ fn cut_tokens(rt: LibcRuntime) -> Result<(), Fail> {
         Number(0),
         Text(b"p\0"),
     ];
-    check_eq(verdict_of(heap, &long)?, (13, 64)).note("a value that passes the block")?;
-    check_eq(verdict_of(heap, &[ROOT, Number(3), Number(0)])?, (13, 64)).note("no name")
+    refused(heap, &long, 13, 64)?;
+    refused(heap, &[ROOT, Number(3), Number(0)], 13, 64)
 }
 
 #[test]
@@ -94,7 +102,7 @@ fn strings_block(rt: LibcRuntime) -> Result<(), Fail> {
     check_eq(verdict_of(heap, &shared)?, (0, 1)).note("a name inside another")?;
     for offset in [5, 6, 7, 8, 0xffff_ffff] {
         let parts = [Text(b"name\0ab"), ROOT, PropertyAt(offset), End, Finish];
-        check_eq(verdict_of(heap, &parts)?, (13, 64)).note("no zero byte in the block")?;
+        refused(heap, &parts, 13, 64)?;
     }
     Ok(())
 }
@@ -110,7 +118,7 @@ fn bad_names(rt: LibcRuntime) -> Result<(), Fail> {
         b"a-name-of-thirty-two-bytes-in-all",
     ];
     for name in names {
-        check_eq(verdict_of(rt.alloc(), &[ROOT, Begin(name)])?, (14, 64))?;
+        refused(rt.alloc(), &[ROOT, Begin(name)], 14, 64)?;
         check_eq(
             verdict_of(rt.alloc(), &[ROOT, Property(name, b"")])?,
             (14, 64),
@@ -126,6 +134,6 @@ fn names_used_twice(rt: LibcRuntime) -> Result<(), Fail> {
     let good = [ROOT, a, Begin(b"a"), a, End, End, Finish];
     check_eq(verdict_of(heap, &good)?, (0, 2))?;
     let nodes = [ROOT, Begin(b"a"), End, Begin(b"b"), End, Begin(b"a")];
-    check_eq(verdict_of(heap, &nodes)?, (14, 88))?;
-    check_eq(verdict_of(heap, &[ROOT, a, a])?, (14, 76))
+    refused(heap, &nodes, 14, 88)?;
+    refused(heap, &[ROOT, a, a], 14, 76)
 }

@@ -68,14 +68,15 @@ fn nested(heap: Global, last: &[u8]) -> Result<(u32, usize), AllocError> {
     let mut blocks = Blocks::new(heap);
     blocks.all(&[Begin(b"")])?;
     blocks.all(&[Begin(b"a"); 126])?;
-    blocks.all(&[Begin(last), Finish])?;
+    blocks.all(&[Begin(last)])?;
+    blocks.all(&[End; 128])?;
+    blocks.all(&[Finish])?;
     Ok(verdict(blocks.blob(heap)?.as_slice()))
 }
 
-// The fault of the shorter one comes later: its nodes do not end.
 #[test]
 fn paths(rt: LibcRuntime) -> Result<(), Fail> {
-    check_eq(nested(rt.alloc(), b"ab")?, (13, 1080))?;
+    check_eq(nested(rt.alloc(), b"ab")?, (0, 128))?;
     check_eq(nested(rt.alloc(), b"abc")?, (15, 1072))
 }
 
