@@ -7,6 +7,7 @@ use std::io::Write;
 
 const USAGE: &str = "usage: dtstack list FILE...";
 
+// Prints what there is to say of one file.
 fn list_file(rt: &LibcRuntime, file: &str) -> io::Result<()> {
     match fs::read(rt, file) {
         Ok(bytes) => {
@@ -26,12 +27,12 @@ fn main(rt: LibcRuntime) -> io::Result<()> {
     if command.as_str() != "list" {
         return println!(rt, "{USAGE}");
     }
-    let mut files = 0u32;
+    let mut any = false;
     for file in args {
         list_file(&rt, file.as_str())?;
-        files = 1;
+        any = true;
     }
-    if files == 0 {
+    if !any {
         println!(rt, "{USAGE}")?;
     }
     Ok(())
