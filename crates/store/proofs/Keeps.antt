@@ -28,6 +28,7 @@ use Rattle.store.specs.declared.Refusal.{Refusal}
 use Rattle.store.specs.declared.Refusal.the-variants.{BadName, Absent, Present, InUse, Limit, Short, Closed}
 use Rattle.store.specs.Calls.{Meaning, closed, holds, Good, there, admitted, none, names, childOn, propertyOn, inUse, addNode, dropNode, setProperty, dropProperty, changed, settled}
 use Rattle.store.specs.Laws.{seen, Writes, Store-laws}
+use Rattle.store.proofs.Nexts.{least-law}
 use Rattle.tree.proofs.MapLaws.{decide}
 use Rattle.tree.proofs.Maps.{some-none, some-one, find-same, find-other, rises-upd, total-upd}
 use Rattle.tree.proofs.Places.{place-order}
@@ -247,4 +248,4 @@ unset-writes (holds t) p n g =
     test (pathText p && propertyName n) BadName _ (λ named. test (there t (nodeAt p) && there t (propertyAt p n)) Absent _ (λ here. accepted t (propertyAt p n) None g (drop-sound t g (propertyAt p n) (λ l v e d u. apart (upPlace l .0) p n (sym (up-node l) ∙ u)) (apart root p n))))
 
 pub store-laws : Store-laws
-store-laws = record { add-node = add-writes; drop-node = drop-writes; set-property = set-writes; drop-property = unset-writes }
+store-laws = record { add-node = add-writes; drop-node = drop-writes; set-property = set-writes; drop-property = unset-writes; next-name = least-law }

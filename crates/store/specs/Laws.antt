@@ -1,7 +1,8 @@
 -- What the definitions of the calls promise over every tree by the rules. Assumes nothing.
 use mathlib.Core.Path.{_≡_}
 use mathlib.Core.Bool.{Bool, true, false}
-use mathlib.Core.List.{List, []}
+use mathlib.Core.List.{List, [], _∷_}
+use mathlib.Core.Logic.{_⊎_}
 use Rattle.std.specs.declared.option.Option.{Option}
 use Rattle.std.specs.declared.option.Option.the-variants.{None, Some}
 use Rattle.std.specs.declared.result.Result.{Result}
@@ -32,8 +33,15 @@ pub record Least (n : Bytes) (among : Bytes → Type 0) (o : Option Bytes) : Typ
   pub least : (m l : Bytes) → o ≡ Some m → among l → later n l ≡ true → later l m ≡ false
   pub missed : o ≡ None → (l : Bytes) → among l → later n l ≡ false
 
+-- one of some names
+abbrev pub Among : Bytes → List Bytes → Type 0
+Among l [] = ⊥
+Among l (m ∷ ms) = (m ≡ l) ⊎ Among l ms
+
 pub record Store-laws : Type 0 where
   pub add-node : (m : Meaning) (p : Bytes) → Good m → Writes m (addNode m p) (nodeAt p) (Some [])
   pub drop-node : (m : Meaning) (p : Bytes) → Good m → Writes m (dropNode m p) (nodeAt p) None
   pub set-property : (m : Meaning) (p n v : Bytes) → Good m → Writes m (setProperty m p n v) (propertyAt p n) (Some v)
   pub drop-property : (m : Meaning) (p n : Bytes) → Good m → Writes m (dropProperty m p n) (propertyAt p n) None
+  -- the next name is the least one behind the given one
+  pub next-name : (n : Bytes) (ms : List Bytes) → Least n (λ l. Among l ms) (leastAfter n ms)

@@ -71,7 +71,7 @@ parent-text p h =
     (λ n. path-splits p h (n .0) .1)
     (by-root p)
 
-sound-of : (boot : ℕ) (ns : List Node) → 0 < length ns → valid boot ns ≡ true → Sound (treeFrom boot ns)
+pub sound-of : (boot : ℕ) (ns : List Node) → 0 < length ns → valid boot ns ≡ true → Sound (treeFrom boot ns)
 sound-of boot [] h v = absurd (omega (arith, h))
 sound-of boot (n ∷ ns) h v = sound-open boot n ns v
 
@@ -159,7 +159,7 @@ module _ (boot : ℕ) (ns : List Node) (v : valid boot ns ≡ true) (h : 0 < len
 
 -- ---- dropping a node
 
-not-same : (a b : Bytes) → (a ≡ b → ⊥) → sameBytes a b ≡ false
+pub not-same : (a b : Bytes) → (a ≡ b → ⊥) → sameBytes a b ≡ false
 not-same a b n = ⊎-elim (λ e. absurd (n (sameBytes-decides a b .0 e))) (λ e. e) (cases-bool (sameBytes a b))
 
 -- the next node is below a node that it is deeper than
@@ -182,7 +182,7 @@ unfolding childIn
 child-aside m c [] h = refl
 child-aside m c (n ∷ ns) h = cond-true (leb (n .depth) m) _ _ h
 
-look-stem : (boot : ℕ) (ns : List Node) → valid boot ns ≡ true → (i : ℕ) → i < length ns → look (treeFrom boot ns) (nodeAt (pathOf (stemAt ns i))) ≡ Some []
+pub look-stem : (boot : ℕ) (ns : List Node) → valid boot ns ≡ true → (i : ℕ) → i < length ns → look (treeFrom boot ns) (nodeAt (pathOf (stemAt ns i))) ≡ Some []
 unfolding look
 look-stem boot ns v i h =
     let ws = parts boot ns v in

@@ -97,6 +97,7 @@ pub trait Tape {
 
     // Puts a node without properties where the spot is.
     fn insert_node(&mut self, s: Spot, depth: usize, name: &[u8])
+        requires opened { ⌜ 0 < length (nodes (now self)) ⌝ }
         requires place { ⌜ (s .node ≤ length (nodes (now self))) × (s ≡ spot (now self) (s .node)) ⌝ }
         requires sound { ⌜ valid (boot (now self)) (withNode (nodes (now self)) (s .node) (bareNode depth (now name))) ≡ true ⌝ }
         ensures nodes { λ _. ⌜ nodes (now (self .exit)) ≡ withNode (nodes (now (self .entry))) (s .node) (bareNode depth (now (name .entry))) ⌝ }

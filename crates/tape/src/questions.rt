@@ -66,7 +66,7 @@ pub fn value_len<T: Tape>(t: &T, path: &[u8], name: &[u8]) -> Result<Option<usiz
 }
 
 // Copies bytes to the buffer's start.
-fn put_front(out: &mut [u8], v: &[u8])
+pub fn put_front(out: &mut [u8], v: &[u8])
     requires { ⌜ length (now v) ≤ length (now out) ⌝ }
     ensures { λ _. ⌜ now (out .exit) ≡ over (now (v .entry)) (now (out .entry)) ⌝ }
 {

@@ -122,6 +122,7 @@ insert-node-requires g c κs =
     let n = ap (λ s. s .node) (c .head-head .ensures .next) ∙ g .T·Tape .spotted t (i + 1) in
     let name = take-rest path (c .leaf-start-start .result) ∙ c .leaf-start-start .ensures .value in
     record {
+      opened = h;
       place = (omega (arith, n, f .0 .inside), c .head-head .ensures .next ∙ ap (g .T·Tape .spot t) (sym n));
       sound = (λ j. valid boot (withNode ns (n j) (bareNode (c .head-head .ensures .depth j + 1) (name j)))) ∙ add-valid boot ns v h path p gone i (f .0 .inside) is (c .counts-counts .result) cs yes;
     }

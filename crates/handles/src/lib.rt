@@ -1,0 +1,2 @@
+// Searches for phandles in any readable tree.
+pub mod handles;

@@ -1,0 +1,11 @@
+pub mod Cursors
+pub mod Decoded
+pub mod Faces
+pub mod Full
+pub mod Gap
+pub mod Grown
+pub mod Marks
+pub mod Named
+pub mod Nodes
+pub mod Spots
+pub mod Tokens

@@ -1,0 +1,4 @@
+pub mod Packing
+pub mod Regions
+pub mod Splices
+pub mod Stands

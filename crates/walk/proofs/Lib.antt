@@ -1,0 +1,13 @@
+pub mod Ancestors
+pub mod Behind
+pub mod Full
+pub mod Orders
+pub mod Runs
+pub mod Least
+pub mod Marks
+pub mod Turns
+pub mod Buffers
+pub mod Climbs
+pub mod Starts
+pub mod Loops
+pub mod Walking

@@ -1,0 +1,2 @@
+// Walks over any readable tree in document order.
+pub mod walk;

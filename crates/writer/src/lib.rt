@@ -1,0 +1,2 @@
+// Writes any readable tree as a blob.
+pub mod writer;
