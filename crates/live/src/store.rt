@@ -7,6 +7,9 @@ ghost use lib.ListN.{length};
 ghost use Rattle.live.specs.Records.{held, flatRows, flatCells, rowsOf, cellsOf, bytesOf, usedRows, usedCells, usedBytes, roomFor, spotIn, markIn};
 ghost use Rattle.tape.specs.Nodes.{valid};
 ghost use Rattle.tape.specs.Tapes.{weightOf};
+
+pub mod calls;
+
 use crate::edits::cut_node;
 use crate::edits::cut_property;
 use crate::edits::put_node;

@@ -1,2 +1,3 @@
+pub mod Asked
 pub mod Kin
 pub mod Members

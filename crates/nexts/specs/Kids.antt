@@ -1,9 +1,13 @@
 -- The names of a node's children and properties as a tape has them. Assumes nothing.
 use mathlib.Core.Bool.{Bool, true, false, cond, _&&_}
 use mathlib.Core.List.{List, [], _∷_, _++_, map}
-use Prim.Native.Nat.{ℕ, _+_}
+use Prim.Native.Nat.{ℕ, _+_, _≤_}
 use denote.Ref.{RefT}
 use lib.Dec.{eqb, leb}
+use lib.ListN.{length}
+use Rattle.std.specs.declared.result.Result.{Result}
+use Rattle.std.specs.declared.result.Result.the-variants.{Ok, Err}
+use Rattle.store.specs.declared.Refusal.{Refusal}
 use Rattle.std.specs.declared.option.Option.{Option}
 use Rattle.std.specs.declared.option.Option.the-variants.{None, Some}
 use Rattle.tree.specs.Places.{Bytes}
@@ -28,3 +32,9 @@ shownName (Some v) = Some (v .now)
 abbrev pub better : Option Bytes → Bytes → Bytes → Bool
 better None m n = later n m
 better (Some k) m n = later n m && later m k
+
+-- a name that is answered fits a buffer of so many bytes
+abbrev pub Held : Result (Option Bytes) Refusal → ℕ → Type 0
+Held (Err e) room = Unit {0}
+Held (Ok None) room = Unit {0}
+Held (Ok (Some v)) room = length v ≤ room
