@@ -1,4 +1,5 @@
 // The format of a blob: its header and the tokens of its structure block.
+#![tactic(auto)]
 pub mod blob;
 pub mod grammar;
 pub mod header;

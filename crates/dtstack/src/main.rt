@@ -1,4 +1,5 @@
 // Lists devicetree blobs.
+#![tactic(auto)]
 use listing::page::list;
 use std::io::Write;
 use std::{env, fs, io};

@@ -1,2 +1,3 @@
 // Searches for phandles in any readable tree.
+#![tactic(auto)]
 pub mod handles;

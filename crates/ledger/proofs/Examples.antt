@@ -24,7 +24,7 @@ use Rattle.overlay_rules.specs.Samples.{base}
 use Rattle.overlay_rules.proofs.Lists.{all-at}
 use Rattle.ledger.specs.Ledgers.{line, merge_all, sum, room, parts, blocker, step, history, answers}
 use Rattle.ledger.specs.Examples.{Worked, Refusals, NoMistakes, worked_calls, refers_ledger, Premises}
-use Rattle.ledger.specs.Invariants.{Fit-call}
+use Rattle.ledger.specs.Invariants.{FitCall}
 use Rattle.ledger.specs.Promises.{Stands}
 use Rattle.ledger.proofs.Standing.{every_history}
 
@@ -103,7 +103,7 @@ base-sound = record {
   boot = lit< tt;
 }
 
-worked_fit : AllByRecursion Fit-call worked_calls
+worked_fit : AllByRecursion FitCall worked_calls
 unfolding node_byte property_byte property_name node_name path_parts path_text stem behind_last parent find upd total be32 handles distinct_handles holder_of largest_of look change zero_ended split digits decimal behind value_at fragment_nodes body_entries strings spots numbers_from labels_of cells_of target_of overlay_of listed_from body_handles handle_fault cell_fault check labelled known node_there number_there image_of filled lowest twice again read_symbols planned allowed plan apply ◌>>=◌ run asked for_each distinct notes restore saved_bytes merge_all sum room parts blocker step history answers
 worked_fit = (tt, ((refl, refl), ((refl, refl), (tt, (tt, (tt, (tt, ((refl, refl), tt))))))))
 

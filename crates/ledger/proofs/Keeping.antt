@@ -17,7 +17,7 @@ use Rattle.overlay_rules.proofs.Looks.{rule-unique, at-most_largest}
 use Rattle.overlay_rules.proofs.Planning.{plan-is}
 use Rattle.overlay_rules.proofs.Rules.{keeps_unique}
 use Rattle.ledger.specs.Ledgers.{plan_at, merge_all, sum, room, Socket, empty, held, shelved, Ledger, ledger_tree, fresh, socket_at, Parts, parts, blocker, Call, opening, plug, unplug, hand_over, take_back, plugged, receipt, granted, by_socket, no, turned, line, plug_by, plug_in, strike_by, unplug_by, step, State, closed, opened, open_by, closed_call, call, history, add_by}
-use Rattle.ledger.specs.Invariants.{Fit, Fit-call, Line-at, Made, count, occupied, Kept}
+use Rattle.ledger.specs.Invariants.{Fit, FitCall, LineAt, Made, count, occupied, Kept}
 use Rattle.ledger.proofs.Sockets.{count_join, count-other, count-own, count_none, Found, found, tied_again, is-room, room-struck}
 use Rattle.ledger.proofs.Striking.{merge-is, rises-all, struck, made-push, all_push}
 
@@ -63,7 +63,7 @@ module _ (g : Ledger) (kept : Kept g) where
       let t = ledger_tree g in
       let d = largest_phandle t in
       let l = line k es d t p in
-      let m : Line-at t l p = record { fit = f; merges = h; entries = refl; share = refl; lawful = kept.lawful } in
+      let m : LineAt t l p = record { fit = f; merges = h; entries = refl; share = refl; lawful = kept.lawful } in
       let e : merge_all g.base (g.lines ++ l ∷ []) ≡ apply p.writes t = all_push g.lines g.base l ∙ merge-is t l p m in
       let sixteen = kept.sixteen in
       let lt : k < length g.sockets = omega arith in
@@ -142,7 +142,7 @@ module _ (g : Ledger) (kept : Kept g) where
   strike_by_kept k f h (Some j) n = kept
   strike_by_kept k f h None n = strike_kept k f h n
 
-  pub step_kept : (c : Call) → Fit-call c → Kept (step g c).1
+  pub step_kept : (c : Call) → FitCall c → Kept (step g c).1
   unfolding step
   step_kept opening f = kept
   step_kept (plug n k es) f = go (ltb n 4096) (ltb 15 k) refl (socket_at g k) refl
@@ -246,11 +246,11 @@ closed-kept t u s (unplug n k) e = e
 closed-kept t u s (hand_over k) e = e
 closed-kept t u s (take_back k) e = e
 
-pub call_kept : (t : Tree) → Sound t → (b : State) (c : Call) → Fit-call c → StateOf t b → StateOf t (call b c).1
+pub call_kept : (t : Tree) → Sound t → (b : State) (c : Call) → FitCall c → StateOf t b → StateOf t (call b c).1
 call_kept t s (closed u) c f h = closed-kept t u s c h
 call_kept t s (opened g) c f h = (step-base g c ∙ h.0, step_kept g h.1 c f)
 
-pub history-kept : (t : Tree) → Sound t → (cs : List Call) (b : State) → AllByRecursion Fit-call cs → StateOf t b → StateOf t (history b cs)
+pub history-kept : (t : Tree) → Sound t → (cs : List Call) (b : State) → AllByRecursion FitCall cs → StateOf t b → StateOf t (history b cs)
 unfolding history
 history-kept t s [] b f h = h
 history-kept t s (c ∷ cs) b f h = history-kept t s cs (call b c).1 f.1 (call_kept t s b c f.0 h)

@@ -24,7 +24,7 @@ use Rattle.overlay_rules.proofs.Shapes.{Grows, grows_back}
 use Rattle.overlay_rules.proofs.Growing.{plan_grows}
 use Rattle.overlay_rules.proofs.Touching.{writes-is, node-absent, plan-fewer, wrote_none, restore_join, restore-reads, restore-writes}
 use Rattle.ledger.specs.Ledgers.{Line, line, plan_at, merge, merge_all, room, Socket, empty, held, shelved, Ledger, ledger_tree, socket_at, plugged, refused, by_socket, no, turned, plug_by, plug_in, step, add_by}
-use Rattle.ledger.specs.Invariants.{Line-at, Made, Kept}
+use Rattle.ledger.specs.Invariants.{LineAt, Made, Kept}
 use Rattle.ledger.specs.Promises.{NoneTouches, Strikes, Striking, Plugging, AnsweredOffset}
 use Rattle.ledger.proofs.Sockets.{room-struck}
 use Rattle.ledger.proofs.Striking.{merge-is, line-plan, rises_merge, rises-all, all_join, follow, line_same, struck, Struck}
@@ -67,7 +67,7 @@ module _ (g : Ledger) (kept : Kept g) (before : List Line) (x : Line) (later : L
   made : Made g.base (before ++ (x ∷ later))
   made = subst (Made g.base) lines kept.made
 
-  at : (p : Plan) × Line-at (merge_all g.base before) x p
+  at : (p : Plan) × LineAt (merge_all g.base before) x p
   unfolding made
   at = made_at before g.base x later made
 

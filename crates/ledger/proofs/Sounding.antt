@@ -21,17 +21,17 @@ use Rattle.overlay_rules.proofs.Touching.{writes-is, plan-fewer, wrote_none}
 use Rattle.overlay_rules.proofs.Shapes.{Shape, shape_of, Grows, grown, grows-front, node_stays, cost_join, total-apply, sound-from}
 use Rattle.overlay_rules.proofs.Growing.{plan_grows, share_is, cost_share}
 use Rattle.ledger.specs.Ledgers.{Line, line, plan_at, merge, merge_all, sum, room, blocker, Ledger, ledger_tree}
-use Rattle.ledger.specs.Invariants.{Fit, Line-at, Made, Kept}
+use Rattle.ledger.specs.Invariants.{Fit, LineAt, Made, Kept}
 use Rattle.ledger.proofs.Sockets.{sum_join, room-is}
 use Rattle.ledger.proofs.Striking.{merge-is, line-plan, rises_merge, rises-all, boot-all, all_join, follow, Followed}
 use Rattle.ledger.proofs.Unplugging.{made-behind}
 
 -- ---- shapes
 
-line-grows : (t : Tree) (l : Line) (p : Plan) → Shape t → look t (node_at symbols_path) ≡ Some [] → Line-at t l p → Grows t p.writes
+line-grows : (t : Tree) (l : Line) (p : Plan) → Shape t → look t (node_at symbols_path) ≡ Some [] → LineAt t l p → Grows t p.writes
 line-grows t l p s y m = plan_grows t l.overlay l.offset p m.fit.0 (passed l.overlay m.fit.1) (line-plan t l p m) s y
 
-shape-merge : (t : Tree) (l : Line) (p : Plan) → Shape t → look t (node_at symbols_path) ≡ Some [] → Line-at t l p → Shape (merge t l.overlay l.offset) × (look (merge t l.overlay l.offset) (node_at symbols_path) ≡ Some [])
+shape-merge : (t : Tree) (l : Line) (p : Plan) → Shape t → look t (node_at symbols_path) ≡ Some [] → LineAt t l p → Shape (merge t l.overlay l.offset) × (look (merge t l.overlay l.offset) (node_at symbols_path) ≡ Some [])
 shape-merge t l p s y m =
     let g = line-grows t l p s y m in
     let e = merge-is t l p m in
@@ -60,7 +60,7 @@ abbrev count-weight : Count
 count-weight = record { of = weigh; share = λ s. s.weight; is = λ ps. refl }
 
 module _ (c : Count) where
-  cost_line : (t : Tree) (l : Line) (p : Plan) → Shape t → Line-at t l p → total c.of (listed p.writes) ≤ c.share l.share
+  cost_line : (t : Tree) (l : Line) (p : Plan) → Shape t → LineAt t l p → total c.of (listed p.writes) ≤ c.share l.share
   cost_line t l p s m =
       let pl = line-plan t l p m in
       let ps = passed l.overlay m.fit.1 in
@@ -88,7 +88,7 @@ made-front (k ∷ ks) ls t m = (m.0, made-front ks ls (merge t k.overlay k.offse
 -- ---- a line cut to its first writes, with the lines after it
 
 -- T the tree before the line, ws its first writes and vs the rest, S the tree with all lines
-module _ (T : Tree) (x : Line) (p : Plan) (later : List Line) (s : Shape T) (y : look T (node_at symbols_path) ≡ Some []) (m : Line-at T x p)
+module _ (T : Tree) (x : Line) (p : Plan) (later : List Line) (s : Shape T) (y : look T (node_at symbols_path) ≡ Some []) (m : LineAt T x p)
     (made : Made (merge T x.overlay x.offset) later) (free : blocker x.entries later ≡ None) (ws vs : List Entry) (cut : p.writes ≡ ws ++ vs) where
   r : Rising T
   r = s.rises
@@ -206,7 +206,7 @@ module _ (g : Ledger) (kept : Kept g) where
       (omega (arith, total-at count-weight g.lines [] nil, c))
 
   -- a line cut to its first writes leaves a tree by the rules
-  pub cut-sound : (before : List Line) (x : Line) (later : List Line) (p : Plan) (ws vs : List Entry) → g.lines ≡ before ++ (x ∷ later) → Line-at (merge_all g.base before) x p → blocker x.entries later ≡ None → p.writes ≡ ws ++ vs
+  pub cut-sound : (before : List Line) (x : Line) (later : List Line) (p : Plan) (ws vs : List Entry) → g.lines ≡ before ++ (x ∷ later) → LineAt (merge_all g.base before) x p → blocker x.entries later ≡ None → p.writes ≡ ws ++ vs
       → (back (merge_all g.base before) vs (ledger_tree g) ≡ merge_all (apply ws (merge_all g.base before)) later) × Sound (merge_all (apply ws (merge_all g.base before)) later)
   unfolding Made merge_all sum
   cut-sound before x later p ws vs e m n cut =
@@ -236,7 +236,7 @@ module _ (g : Ledger) (kept : Kept g) where
   push-sound k es p f h rm ws vs cut =
       let t = ledger_tree g in
       let l = line k es (largest_phandle t) t p in
-      let m : Line-at t l p = record { fit = f; merges = h; entries = refl; share = refl; lawful = kept.lawful } in
+      let m : LineAt t l p = record { fit = f; merges = h; entries = refl; share = refl; lawful = kept.lawful } in
       let nil = sym (append-nil g.lines) in
       let sh = shape_at g.lines [] nil in
       let G = grows-front ws vs t (subst (Grows t) cut (line-grows t l p sh.0 sh.1 m)) in

@@ -16,7 +16,7 @@ use Rattle.overlay_rules.proofs.References.{points}
 use Rattle.overlay_rules.proofs.Rules.{keeps_valid}
 use Rattle.overlay_rules.proofs.Touching.{plan-fewer, wrote_none}
 use Rattle.ledger.specs.Ledgers.{Line, merge, merge_all, Ledger, ledger_tree, State, closed, opened, history}
-use Rattle.ledger.specs.Invariants.{Line-at, Made, Kept}
+use Rattle.ledger.specs.Invariants.{LineAt, Made, Kept}
 use Rattle.ledger.specs.Promises.{Stands, Refers, Promise, Promised, EveryHistory, Invariant}
 use Rattle.ledger.proofs.Keeping.{fresh_kept, step_kept, StateOf, history-kept}
 use Rattle.ledger.proofs.Sounding.{tree-sound}
@@ -25,7 +25,7 @@ use Rattle.ledger.proofs.Unplugging.{unplugs, made_at, made-behind, each_can_be_
 
 -- ---- what lines keep
 
-pub valid-merge : (t : Tree) (l : Line) (p : Plan) → Rising t → Valid t → Line-at t l p → Valid (merge t l.overlay l.offset)
+pub valid-merge : (t : Tree) (l : Line) (p : Plan) → Rising t → Valid t → LineAt t l p → Valid (merge t l.overlay l.offset)
 valid-merge t l p r v m = subst Valid (sym (merge-is t l p m)) (keeps_valid t l.overlay l.offset p (passed l.overlay m.fit.1) (line-plan t l p m) r v)
 
 pub valid-all : (ls : List Line) (t : Tree) → Rising t → Valid t → Made t ls → Valid (merge_all t ls)

@@ -17,14 +17,14 @@ use Rattle.overlay_rules.proofs.Journals.{rises-apply, boot-apply, look-out, hit
 use Rattle.overlay_rules.proofs.Planning.{Planned, plan-is}
 use Rattle.overlay_rules.proofs.Touching.{asks_what_it_reads, plan-fewer, note_read, note_write, wrote_none, restore-back}
 use Rattle.ledger.specs.Ledgers.{Line, plan_at, merged_by, merge, merge_all, blocker}
-use Rattle.ledger.specs.Invariants.{Line-at, Made}
+use Rattle.ledger.specs.Invariants.{LineAt, Made}
 
 -- ---- merges
 
-pub merge-is : (t : Tree) (l : Line) (p : Plan) → Line-at t l p → merge t l.overlay l.offset ≡ apply p.writes t
+pub merge-is : (t : Tree) (l : Line) (p : Plan) → LineAt t l p → merge t l.overlay l.offset ≡ apply p.writes t
 merge-is t l p m = ap (merged_by t) m.merges
 
-pub line-plan : (t : Tree) (l : Line) (p : Plan) → Line-at t l p → Planned t (overlay_of l.overlay) l.offset p
+pub line-plan : (t : Tree) (l : Line) (p : Plan) → LineAt t l p → Planned t (overlay_of l.overlay) l.offset p
 line-plan t l p m = plan-is t (overlay_of l.overlay) l.offset p m.merges
 
 pub rises_merge : (t : Tree) (es : List Entry) (d : ℕ) → Rising t → Rising (merge t es d)
@@ -82,18 +82,18 @@ module _ (x : List Entry) (ns : List Note) (wx : (k : Place) → wrote ns k ≡ 
   free_note : (l : Line) → touches ns l.entries ≡ false → (n : Note) → In n l.entries → Free x n.place
   free_note l h n i = wx n.place (all-at _ n l.entries (some-false (λ y. wrote ns y.place) l.entries h) i)
 
-  free-read : (t : Tree) (l : Line) (p : Plan) → Line-at t l p → touches ns l.entries ≡ false → (k : Place) → In k p.reads → Free x k
+  free-read : (t : Tree) (l : Line) (p : Plan) → LineAt t l p → touches ns l.entries ≡ false → (k : Place) → In k p.reads → Free x k
   free-read t l p m h k i =
       let n = note_read p t k i in
       subst (Free x) n.2 (free_note l h n.0 (subst (In n.0) (sym m.entries) n.1))
 
-  free-write : (t : Tree) (l : Line) (p : Plan) → Line-at t l p → touches ns l.entries ≡ false → (e : Entry) → In e p.writes → Free x e.place
+  free-write : (t : Tree) (l : Line) (p : Plan) → LineAt t l p → touches ns l.entries ≡ false → (e : Entry) → In e p.writes → Free x e.place
   free-write t l p m h e i =
       let n = note_write p t e i in
       subst (Free x) n.2 (free_note l h n.0 (subst (In n.0) (sym m.entries) n.1))
 
   -- a line that x does not touch is the same line in both trees
-  pub line_same : (s t : Tree) (l : Line) (p : Plan) → Rising s → Rising t → Off x s t → Fewer s t → touches ns l.entries ≡ false → Line-at t l p → Line-at s l p
+  pub line_same : (s t : Tree) (l : Line) (p : Plan) → Rising s → Rising t → Off x s t → Fewer s t → touches ns l.entries ≡ false → LineAt t l p → LineAt s l p
   line_same s t l p rs rt o f h m =
       let q = plan_at l.overlay l.offset in
       let a = asks_what_it_reads t (overlay_of l.overlay) l.offset p m.merges in
@@ -184,7 +184,7 @@ struck (k ∷ ks) t x ls r n m =
 
 -- ---- one more line
 
-pub made-push : (ls : List Line) (t : Tree) (l : Line) (p : Plan) → Made t ls → Line-at (merge_all t ls) l p → Made t (ls ++ l ∷ [])
+pub made-push : (ls : List Line) (t : Tree) (l : Line) (p : Plan) → Made t ls → LineAt (merge_all t ls) l p → Made t (ls ++ l ∷ [])
 unfolding Made merge_all
 made-push [] t l p m h = ((p, h), tt)
 made-push (k ∷ ls) t l p m h = (m.0, made-push ls _ l p m.1 h)

@@ -11,7 +11,7 @@ use Rattle.overlay_rules.specs.Plans.{Plan}
 use Rattle.overlay_rules.specs.Records.{written, wrote, touches}
 use Rattle.overlay_rules.proofs.Lists.{some-true, some_in}
 use Rattle.ledger.specs.Ledgers.{Line, merge_all, room, held, Ledger, socket_at, Parts, parts, blocker, unplug, granted, refused, by_socket, no, strike_by, unplug_by, step}
-use Rattle.ledger.specs.Invariants.{Line-at, Made, occupied, Kept}
+use Rattle.ledger.specs.Invariants.{LineAt, Made, occupied, Kept}
 use Rattle.ledger.specs.Promises.{CanBeDone, EachCanBeDone, Touches, NoneTouches, Earliest, Unplugs}
 use Rattle.ledger.proofs.Sockets.{room-front}
 use Rattle.ledger.proofs.Keeping.{mine}
@@ -122,7 +122,7 @@ unplugs g kept n k long s =
 
 -- ---- each merge can be done
 
-pub made_at : (ks : List Line) (t : Tree) (l : Line) (ls : List Line) → Made t (ks ++ (l ∷ ls)) → (p : Plan) × Line-at (merge_all t ks) l p
+pub made_at : (ks : List Line) (t : Tree) (l : Line) (ls : List Line) → Made t (ks ++ (l ∷ ls)) → (p : Plan) × LineAt (merge_all t ks) l p
 unfolding Made merge_all
 made_at [] t l ls m = m.0
 made_at (k ∷ ks) t l ls m = made_at ks _ l ls m.1

@@ -11,7 +11,7 @@ use Rattle.overlay_rules.specs.Overlays.{phandle_at}
 use Rattle.overlay_rules.specs.PlanExamples.{refers}
 use Rattle.overlay_rules.specs.Samples.{node, property, text, fragment, to_path, base, base_with, adds_cell, sets_at, sets_on, adds_child}
 use Rattle.ledger.specs.Ledgers.{Call, opening, plug, unplug, hand_over, take_back, Answer, plugged, receipt, granted, refused, Ledger, fresh, State, closed, opened, call, history, answers, state_tree}
-use Rattle.ledger.specs.Invariants.{Fit, Fit-call}
+use Rattle.ledger.specs.Invariants.{Fit, FitCall}
 use Rattle.ledger.specs.Promises.{Promised, Stands}
 
 abbrev pub ran : Tree → List Call → Tree
@@ -130,7 +130,7 @@ pub record Premises : Type 0 where
   pub sound : Sound base
   pub opens : call (closed base) opening ≡ (granted, opened (fresh base))
   -- every call of the histories is fit, and they leave an open stack
-  pub fit : AllByRecursion Fit-call worked_calls
+  pub fit : AllByRecursion FitCall worked_calls
   pub open_stack : answers (closed base) worked_calls ≡ granted ∷ plugged 0 5 ∷ plugged 1 6 ∷ refused 40 1 ∷ granted ∷ receipt 0 ∷ granted ∷ plugged 1 6 ∷ []
   pub promised : Promised base (history (closed base) worked_calls)
   -- a reference stands

@@ -16,15 +16,15 @@ use Rattle.ledger.specs.Ledgers.{Line, plan_at, merge, room, Socket, empty, held
 abbrev pub Fit : List Entry → Type 0
 Fit es = (well_listed es ≡ true) × (check es ≡ None)
 
-abbrev pub Fit-call : Call → Type 0
-Fit-call opening = Unit {0}
-Fit-call (plug n k es) = Fit es
-Fit-call (unplug n k) = Unit {0}
-Fit-call (hand_over k) = Unit {0}
-Fit-call (take_back k) = Unit {0}
+abbrev pub FitCall : Call → Type 0
+FitCall opening = Unit {0}
+FitCall (plug n k es) = Fit es
+FitCall (unplug n k) = Unit {0}
+FitCall (hand_over k) = Unit {0}
+FitCall (take_back k) = Unit {0}
 
 -- the line's merge into t can be done at its offset, and the line's record and share are those of that merge
-pub record Line-at (t : Tree) (l : Line) (p : Plan) : Type 0 where
+pub record LineAt (t : Tree) (l : Line) (p : Plan) : Type 0 where
   pub fit : Fit l.overlay
   pub merges : run t (plan_at l.overlay l.offset) ≡ Ok p
   pub entries : l.entries ≡ notes p t
@@ -34,7 +34,7 @@ pub record Line-at (t : Tree) (l : Line) (p : Plan) : Type 0 where
 -- so one after the other
 unfoldable pub Made : Tree → List Line → Type 0
 Made t [] = Unit {0}
-Made t (l ∷ ls) = ((p : Plan) × Line-at t l p) × Made (merge t l.overlay l.offset) ls
+Made t (l ∷ ls) = ((p : Plan) × LineAt t l p) × Made (merge t l.overlay l.offset) ls
 
 -- how many lines a socket has
 unfoldable pub count : ℕ → List Line → ℕ

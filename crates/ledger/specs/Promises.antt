@@ -12,7 +12,7 @@ use Rattle.overlay_rules.specs.Plans.{Plan, Reference, apply}
 use Rattle.overlay_rules.specs.Queries.{run}
 use Rattle.overlay_rules.specs.Records.{Note, created, notes, written, wrote, restore}
 use Rattle.ledger.specs.Ledgers.{Line, line, plan_at, merge_all, room, held, Ledger, ledger_tree, fresh, socket_at, Call, plug, unplug, plugged, granted, refused, step, State, closed, opened, history}
-use Rattle.ledger.specs.Invariants.{Fit, Fit-call, Kept}
+use Rattle.ledger.specs.Invariants.{Fit, FitCall, Kept}
 
 -- ---- the tree is explained by the lines
 
@@ -98,7 +98,7 @@ Promised t (opened g) = (g.base ≡ t) × Promise g
 
 -- whatever the calls and their arguments, in whatever order
 abbrev pub EveryHistory : Type 0
-EveryHistory = (t : Tree) (calls : List Call) → Sound t → AllByRecursion Fit-call calls → Promised t (history (closed t) calls)
+EveryHistory = (t : Tree) (calls : List Call) → Sound t → AllByRecursion FitCall calls → Promised t (history (closed t) calls)
 
 -- ---- striking a line that no later one touches
 
@@ -143,5 +143,5 @@ AnsweredOffset = (g : Ledger) (n k : ℕ) (es : List Entry) (j d : ℕ) → (ste
 
 pub record Invariant : Type 0 where
   pub opens : (t : Tree) (v : Bytes) → Sound t → phandle_rule t ≡ true → look t (node_at symbols_path) ≡ Some v → Kept (fresh t)
-  pub steps : (g : Ledger) → Kept g → (c : Call) → Fit-call c → Kept (step g c).1
+  pub steps : (g : Ledger) → Kept g → (c : Call) → FitCall c → Kept (step g c).1
   pub promises : (g : Ledger) → Kept g → Promise g

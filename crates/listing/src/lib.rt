@@ -1,4 +1,5 @@
 // Lists a blob: what `dtstack list` prints of it.
+#![tactic(auto)]
 pub mod hex;
 pub mod page;
 pub mod rows;

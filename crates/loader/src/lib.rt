@@ -1,3 +1,4 @@
 // Fills a store from a blob: the root alone, then one ordinary write for each node and property.
+#![tactic(auto)]
 pub mod fill;
 pub mod trail;

@@ -1,4 +1,5 @@
 // Reads a blob: says whether it is one within the limits, and hands out its tokens.
+#![tactic(auto)]
 pub mod counts;
 pub mod cursor;
 pub mod flat;

@@ -1,4 +1,5 @@
 // Tests of the reader, apart from its crate so that it is not proved twice.
+#![tactic(auto)]
 #[cfg(test)]
 mod build;
 #[cfg(test)]

@@ -1,2 +1,3 @@
 // Walks over any readable tree in document order.
+#![tactic(auto)]
 pub mod walk;

@@ -1,2 +1,3 @@
 // Writes any readable tree as a blob.
+#![tactic(auto)]
 pub mod writer;
