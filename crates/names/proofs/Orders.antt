@@ -7,8 +7,7 @@ use Rattle.std.proofs.lemmas.List.{map-append}
 use Rattle.std.proofs.lemmas.Map.Lookups.{exact_bytes}
 use Rattle.std.proofs.lemmas.Bool.{cases_Bool, cases_order, eqb-true, lt-ltb, le-ltb, eq-eqb, ne_eqb, cond-true, cond-false, true≢false}
 use Rattle.std.specs.Ordering.{ordering_reverse, ordering_then}
-use Rattle.std.specs.Cmp.{nat_cmp_total}
-use Rattle.std.specs.Cmp.Lexicographic.{lexical}
+use Rattle.std.proofs.lemmas.Cmp.{nat_list_cmp_total}
 use Rattle.names.specs.Orders.{name_order, path_order, rank}
 use Rattle.names.specs.Paths.{root, stem, child, plain}
 use Rattle.names.specs.PathLaws.{Exactly, ChildAfter, LongerAfter, FrontShared, Siblings, SiblingsBelow, further}
@@ -44,7 +43,7 @@ longer [] y ys = refl
 longer (x ∷ xs) y ys = ap (λ o. ordering_then o (name_order xs (xs ++ (y ∷ ys)))) (level x x refl) ∙ longer xs y ys
 
 pub name_order_lem : Exactly name_order
-name_order_lem = record { flip = (lexical nat_cmp_total).flip; trans = (lexical nat_cmp_total).trans; exact = exact_bytes; itself = itself }
+name_order_lem = record { flip = nat_list_cmp_total.antisymm; trans = nat_list_cmp_total.trans; exact = exact_bytes; itself = itself }
 
 -- ---- ranks
 
@@ -63,8 +62,8 @@ rank-all (a ∷ x) (b ∷ y) e =
 pub path_order_lem : Exactly path_order
 path_order_lem =
     record {
-      flip = λ x y. (lexical nat_cmp_total).flip (map rank x) (map rank y);
-      trans = λ x y z. (lexical nat_cmp_total).trans (map rank x) (map rank y) (map rank z);
+      flip = λ x y. nat_list_cmp_total.antisymm (map rank x) (map rank y);
+      trans = λ x y z. nat_list_cmp_total.trans (map rank x) (map rank y) (map rank z);
       exact = λ x y e. rank-all x y (exact_bytes (map rank x) (map rank y) e);
       itself = λ x. itself (map rank x);
     }

@@ -1,5 +1,5 @@
 -- Paths as the bytes that calls pass: `/` for the root, else a `/` before each name below it. Assumes nothing.
-use Rattle.std.specs.Prelude.{ℕ, ◌+◌, ◌-◌, Bool, true, false, cond, not, ◌&&◌, ◌||◌, List, [], ◌∷◌, ◌++◌, length, take, ◌==◌}
+use Rattle.std.specs.Prelude.{ℕ, ◌+◌, ◌-◌, Bool, false, cond, not, ◌&&◌, ◌||◌, List, [], ◌∷◌, ◌++◌, length, take, ◌==◌}
 use Rattle.std.specs.Str.{bytes_eq}
 use Rattle.names.specs.Names.{each, node_name}
 

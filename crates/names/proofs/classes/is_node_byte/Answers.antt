@@ -8,6 +8,6 @@ returns-in-Both c = node_class _ _ c.in-Both.ensures
 pub returns-in-Property : goal.returns-in-Property
 returns-in-Property c =
     ⊎_elim
-    (λ e. node_class _ _ (sym e ∙ c.class-of.ensures))
-    (λ e. node_class _ _ (sym e ∙ c.class-of.ensures))
+    (λ e. node_class _ _ (sym e ∙ c.class_of.ensures))
+    (λ e. node_class _ _ (sym e ∙ c.class_of.ensures))
     c.in-Property.is

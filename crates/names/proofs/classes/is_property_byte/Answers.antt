@@ -5,8 +5,8 @@ use Rattle.names.proofs.classes.is_property_byte.Goals as goal
 pub returns-in-Both : goal.returns-in-Both
 returns-in-Both c =
     ⊎_elim
-    (λ e. property_class _ _ (sym e ∙ c.class-of.ensures))
-    (λ e. property_class _ _ (sym e ∙ c.class-of.ensures))
+    (λ e. property_class _ _ (sym e ∙ c.class_of.ensures))
+    (λ e. property_class _ _ (sym e ∙ c.class_of.ensures))
     c.in-Both.is
 
 pub returns-in-Neither : goal.returns-in-Neither

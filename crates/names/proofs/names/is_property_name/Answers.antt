@@ -3,4 +3,4 @@ use Rattle.names.proofs.names.is_property_name.Goals as goal
 
 pub returns : goal.returns
 unfolding property_name
-returns c = c.is-word.ensures
+returns c = c.is_word.ensures

@@ -3,8 +3,8 @@ use Rattle.std.proofs.lemmas.Bool.Decides.{nat_tests}
 use Rattle.names.proofs.Words.{each-run}
 use Rattle.names.proofs.names.is_word.Goals as goal
 
-pub returns-then-is-word-length : goal.returns-then-is-word-length
-returns-then-is-word-length g c =
+pub returns-then-is_word_length : goal.returns-then-is_word_length
+returns-then-is_word_length g c =
     let h = each-run g.A.Alphabet.holds c.args.s.now in
-    let k = c.if-is-word-length.ensures in
+    let k = c.if-is_word_length.ensures in
     grind (arith, nat_tests)

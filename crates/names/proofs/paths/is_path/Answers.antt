@@ -16,4 +16,4 @@ returns-then-s-eq1 c =
     eq-eqb _ _ c.if-s-eq1.true ∙ sym (path-root _ c.if-s-ne-SLASH.false c.if-s-eq1.true)
 
 pub returns-else-s-eq1 : goal.returns-else-s-eq1
-returns-else-s-eq1 c = c.are-node-names.ensures ∙ sym (path_names _ c.if-s-ne-SLASH.false c.if-s-eq1.false)
+returns-else-s-eq1 c = c.are_node_names.ensures ∙ sym (path_names _ c.if-s-ne-SLASH.false c.if-s-eq1.false)

@@ -1,6 +1,0 @@
-use Rattle.std.specs.Cmp.{nat_cmp_total}
-use Rattle.std.specs.Cmp.Lexicographic.{lexical}
-use Rattle.names.proofs.paths.compare_names.Goals as goal
-
-pub returns : goal.returns
-returns c = (lexical nat_cmp_total).says c.args.a.now c.args.b.now _ c.cmp.ensures
