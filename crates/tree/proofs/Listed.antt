@@ -1,16 +1,14 @@
 -- Entries in a good order make a sound tree, in which each is found. Assumes nothing.
-use Rattle.std.proofs.Common.{◌≡◌, ℕ, ◌+◌, ◌^◌, ◌<◌, ◌≤◌, Bool, true, false, cond, not, ◌&&◌, ◌||◌, eqb, leb, ◌⊎◌, List, [], ◌∷◌, ◌++◌, map, length, Some, None, Option, Ordering, Less, Equal, Greater, sym, refl, ap, ◌∙◌, subst, inl, inr, ⊎_elim, true≢false, arith}
-use Rattle.std.proofs.lemmas.Bool.Decides.{nat_tests}
-use Rattle.std.proofs.lemmas.Bool.{and_parts, and_from, or_parts, or_from, or_cases, both_ways, cases_Bool, eqb-true, not-true}
+use Rattle.std.proofs.Common.{◌≡◌, ℕ, ◌^◌, ◌<◌, Bool, true, false, not, ◌&&◌, ◌||◌, eqb, ◌⊎◌, List, [], ◌∷◌, length, Some, None, Ordering, Less, Equal, Greater, sym, refl, ap, ◌∙◌, subst, inl, inr, ⊎_elim, true≢false, arith}
+use Rattle.std.proofs.lemmas.Bool.{and_parts, or_cases, both_ways, eqb-true, not-true}
 use Rattle.std.specs.Ordering.{is_eq}
-use Rattle.names.specs.Names.{each}
-use Rattle.names.specs.Paths.{root, parent, path_text, leaf, behind_last}
-use Rattle.tree.specs.Entries.{Entry, inserted, tree_of, listed, same_place, among_places, bare, listed_next, listed_from, well_listed}
+use Rattle.names.specs.Paths.{root, parent, path_text}
+use Rattle.tree.specs.Entries.{Entry, inserted, tree_of, listed, same_place, among_places, bare, listed_next, listed_from}
 use Rattle.names.proofs.PathLaws.{root_ends}
 use Rattle.tree.specs.EntryLaws.{ListedSound}
 use Rattle.tree.specs.Maps.{find, upd, Rises, worth, total}
-use Rattle.tree.specs.Places.{Bytes, Place, node_at, property_at, order}
-use Rattle.tree.specs.Trees.{Places, Tree, look, node_count, property_count, weigh, nodes, properties, weight, roomy, named_place, short_place, up_place, Sound}
+use Rattle.tree.specs.Places.{Bytes, Place, node_at, order}
+use Rattle.tree.specs.Trees.{look, node_count, property_count, weigh, roomy, named_place, short_place, up_place, Sound}
 use Rattle.tree.proofs.MapLaws.{decide}
 use Rattle.tree.proofs.Maps.{same, find-same, find-other, rises-upd, total-upd, some_one}
 use Rattle.tree.proofs.Places.{place-order}

@@ -1,6 +1,6 @@
 -- The laws of finite maps, by look-up: same key, other key, order kept, equal look-ups are one list, sums. Assumes nothing.
 use Rattle.std.proofs.Common.{◌≡◌, ℕ, ◌+◌, List, [], ◌∷◌, is_some, Some, None, Option, Ordering, Less, Equal, Greater, sym, refl, ap, ◌∙◌, subst, true≢false, arith}
-use Rattle.std.specs.Ordering.{match_ordering as by_order, ordering_reverse, is_lt, is_eq, is_gt}
+use Rattle.std.specs.Ordering.{match_ordering as by_order, ordering_reverse, is_lt, is_gt}
 use Rattle.tree.specs.Maps.{Ordered, entry, find, upd, Below, Rises, worth, total}
 
 fixed : (r : Ordering) → r ≡ ordering_reverse r → r ≡ Equal

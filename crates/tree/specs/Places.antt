@@ -22,4 +22,4 @@ property_at p name = (p, Some name)
 
 -- document order: a node, its properties by name, then its children by name with all below them
 abbrev pub order : Place → Place → Ordering
-order k l = ordering_then ((slice_cmp std-orderings.nat_cmp) (map rank k.0, k.1).0 (map rank l.0, l.1).0) ((option_cmp (slice_cmp std-orderings.nat_cmp)) (map rank k.0, k.1).1 (map rank l.0, l.1).1)
+order k l = ordering_then (slice_cmp std-orderings.nat_cmp (map rank k.0) (map rank l.0)) (option_cmp (slice_cmp std-orderings.nat_cmp) k.1 l.1)

@@ -1,6 +1,6 @@
 -- A tree: its boot CPU number, and its places in document order with their bytes. Assumes nothing.
-use Rattle.std.specs.Prelude.{◌≡◌, ℕ, ◌+◌, ◌^◌, ◌<◌, ◌≤◌, Bool, true, false, cond, ◌&&◌, List, [], ◌∷◌, length, Some, None, Option, nat_le}
-use Rattle.names.specs.Names.{node_name, property_name}
+use Rattle.std.specs.Prelude.{◌≡◌, ℕ, ◌+◌, ◌^◌, ◌<◌, Bool, true, ◌&&◌, List, [], length, Some, None, Option, nat_le}
+use Rattle.names.specs.Names.{property_name}
 use Rattle.names.specs.Paths.{root, path_text, leaf, parent}
 use Rattle.tree.specs.Maps.{find, upd, Rises, total}
 use Rattle.tree.specs.Numbers.{pad4}

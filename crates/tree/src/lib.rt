@@ -1,6 +1,7 @@
 // The model of a tree: places, trees, limits, phandles, located entries, in specs/. This code only names the laws that
 // the other crates rest on, so that the check demands their proofs.
 #![tactic(auto)]
+
 ghost use Rattle.tree.specs.EntryLaws.{ListedSound};
 ghost use Rattle.tree.specs.MapLaws.{PlacesLawful, PlacesOrdered};
 
