@@ -165,6 +165,7 @@ def respell(p, t, to):
     made = set(re.findall(r"^\s*(?:abbrev\s+)?(?:pub\s+)?(\S+) : (?:need|goal)\.\1\s*$", t, re.M))
     lib, aliases = library_names(t)
     skip = made | {n for n in lib if not re.search(r"^\s*(?:unfoldable |abbrev |pub )*" + re.escape(n) + r" :", t, re.M)}
+    steps = {"c", "l", "need", "goal"} if os.path.basename(p) in MADE else set()  # what the check names
     out, done = [], 0
     for a, b in sorted(set(spans(t, kind))):
         if a < done:
@@ -175,7 +176,7 @@ def respell(p, t, to):
             w = m[0]
             before = t[max(0, m.start() - 40):m.start()]
             head = re.search(r"(?:^|[\s(\[,;])([^\s(){}\[\];,.]+)\.$", before)
-            if w not in to or w in skip or (head and head[1] in ({"c", "l", "need", "goal"} | aliases)):
+            if w not in to or w in skip or (head and head[1] in (steps | aliases)):
                 continue
             out.append(t[last:m.start()])
             out.append(to[w])

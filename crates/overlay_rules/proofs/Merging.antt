@@ -113,7 +113,7 @@ module _ (t : Tree) (es : List Entry) (d : ℕ) (p : Plan) (s : Sound t) (w : we
           y.1,
           record {
             body = l.body;
-            node = l.node-is ∙ ap Some (s.bare y.0.to l.node l.node-is);
+            node = l.node_is ∙ ap Some (s.bare y.0.to l.node l.node_is);
             aimed = aimed-at t m.env f f.target y.0 s.rises y.2;
           },
         );

@@ -73,7 +73,7 @@ module _ (t : Tree) (v : Overlay) (d : ℕ) (p : Plan) (r : Rising t) (sy : look
   known-firm k j i h =
       let y = gave-from t labelled v.labels m.env k (gave t labelled v.labels m.env m.labels) i in
       let l = labelled-is t y.0 k y.2 in
-      go (l.symbol, ap (λ z. look t (property_at symbols_path z)) l.name ∙ l.symbol-is) (l.node, l.node-is) (l.handle, l.handle-is) h
+      go (l.symbol, ap (λ z. look t (property_at symbols_path z)) l.name ∙ l.symbol_is) (l.node, l.node_is) (l.handle, l.handle_is) h
     where
       go : (a : Bytes) × (look t (property_at symbols_path k.name) ≡ Some a) → (b : Bytes) × (look t (node_at k.path) ≡ Some b) → (c : Bytes) × (look t (phandle_at k.path) ≡ Some c) → In j (known_reads k) → Firm t j
       go a b c (inl e) = ((a.0, ap (look t) e ∙ a.1), inr (ap once e ∙ symbol-once k.name))
