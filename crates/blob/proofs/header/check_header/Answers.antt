@@ -4,21 +4,21 @@ use Rattle.blob.specs.Header.{header}
 use Rattle.blob.proofs.Heads.{checked}
 use Rattle.blob.proofs.header.check_header.Goals as goal
 
-pub returns-then-not-is-identified : goal.returns-then-not-is-identified
+pub returns-then-not-is_identified : goal.returns-then-not-is_identified
 unfolding header
-returns-then-not-is-identified c = checked c.args.bytes.now _ (grind (arith, nat_tests))
+returns-then-not-is_identified c = checked c.args.bytes.now _ (grind (arith, nat_tests))
 
-pub returns-then-not-is-versioned : goal.returns-then-not-is-versioned
+pub returns-then-not-is_versioned : goal.returns-then-not-is_versioned
 unfolding header
-returns-then-not-is-versioned c = checked c.args.bytes.now _ (grind (arith, nat_tests))
+returns-then-not-is_versioned c = checked c.args.bytes.now _ (grind (arith, nat_tests))
 
-pub returns-then-not-is-placed : goal.returns-then-not-is-placed
+pub returns-then-not-is_placed : goal.returns-then-not-is_placed
 unfolding header
-returns-then-not-is-placed c = checked c.args.bytes.now _ (grind (arith, nat_tests))
+returns-then-not-is_placed c = checked c.args.bytes.now _ (grind (arith, nat_tests))
 
-pub returns-then-be32-at-gt-LARGEST : goal.returns-then-be32-at-gt-LARGEST
+pub returns-then-be32_at-gt-LARGEST : goal.returns-then-be32_at-gt-LARGEST
 unfolding header
-returns-then-be32-at-gt-LARGEST c = checked c.args.bytes.now _ (grind (arith, nat_tests))
+returns-then-be32_at-gt-LARGEST c = checked c.args.bytes.now _ (grind (arith, nat_tests))
 
 pub returns : goal.returns
 unfolding header

@@ -3,9 +3,9 @@ use Rattle.std.proofs.lemmas.Bool.Decides.{nat_tests}
 use Rattle.blob.specs.Header.{placed}
 use Rattle.blob.proofs.header.is_placed.Goals as goal
 
-pub returns-then-structure-structure-size : goal.returns-then-structure-structure-size
+pub returns-then-structure-structure_size : goal.returns-then-structure-structure_size
 unfolding placed
-returns-then-structure-structure-size c = grind (arith, nat_tests)
+returns-then-structure-structure_size c = grind (arith, nat_tests)
 
 pub returns-then-structure-eq0 : goal.returns-then-structure-eq0
 unfolding placed

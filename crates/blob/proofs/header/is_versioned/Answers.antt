@@ -3,10 +3,10 @@ use Rattle.std.proofs.lemmas.Bool.Decides.{nat_tests}
 use Rattle.blob.specs.Header.{versioned}
 use Rattle.blob.proofs.header.is_versioned.Goals as goal
 
-pub returns-then-be32-at-eq-VERSION : goal.returns-then-be32-at-eq-VERSION
+pub returns-then-be32_at-eq-VERSION : goal.returns-then-be32_at-eq-VERSION
 unfolding versioned
-returns-then-be32-at-eq-VERSION c = grind (arith, nat_tests)
+returns-then-be32_at-eq-VERSION c = grind (arith, nat_tests)
 
-pub returns-else-be32-at-eq-VERSION : goal.returns-else-be32-at-eq-VERSION
+pub returns-else-be32_at-eq-VERSION : goal.returns-else-be32_at-eq-VERSION
 unfolding versioned
-returns-else-be32-at-eq-VERSION c = grind (arith, nat_tests)
+returns-else-be32_at-eq-VERSION c = grind (arith, nat_tests)

@@ -25,9 +25,9 @@ pub returns-then-next-end : goal.returns-then-next-end
 unfolding token_at
 returns-then-next-end c = record { value = grind (arith, nat_tests); bounds = tt }
 
-pub returns-in-default : goal.returns-in-default
+pub returns-in_default : goal.returns-in_default
 unfolding token_at
-returns-in-default c = record { value = grind (arith, nat_tests); bounds = tt }
+returns-in_default c = record { value = grind (arith, nat_tests); bounds = tt }
 
 pub returns : goal.returns
 unfolding token_at
