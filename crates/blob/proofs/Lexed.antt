@@ -1,6 +1,5 @@
 -- The tokens from an offset on, one step at a time. Assumes nothing.
-use Rattle.std.proofs.Common.{◌≡◌, ℕ, zero, suc, ◌+◌, ◌-◌, ◌<◌, ◌≤◌, List, [], ◌∷◌, Some, None, Option, sym, refl, ap, ◌∙◌, subst, arith}
-use Rattle.blob.specs.Grammar.{IsToken}
+use Rattle.std.proofs.Common.{◌≡◌, ℕ, zero, suc, ◌+◌, ◌-◌, ◌<◌, ◌≤◌, List, [], ◌∷◌, Some, None, Option, refl, ap, arith}
 use Rattle.blob.specs.Lexing.{Tokens, more, lex, tokens_from, Rising, NoToken, Follow, TokensFollow, TokensOnly, TokensRise}
 use Rattle.blob.specs.Tokens.{Tok, token_at}
 use Rattle.blob.specs.declared.types.Layout.{Layout}

@@ -1,11 +1,11 @@
 -- `tokenAt` finds what is a token, and nothing else. Assumes nothing.
-use Rattle.std.proofs.Common.{◌≡◌, ℕ, suc, ◌+◌, ◌-◌, ◌<◌, ◌≤◌, Bool, true, false, cond, eqb, ltb, leb, List, [], ◌∷◌, ◌++◌, length, take, drop, Some, None, Option, sym, refl, ap, ◌∙◌, subst, arith, length-append, take_at, ltb-true, lt-ltb, ne_eqb, eqb-true}
+use Rattle.std.proofs.Common.{◌≡◌, ℕ, suc, ◌+◌, ◌<◌, ◌≤◌, Bool, true, false, eqb, List, [], ◌∷◌, ◌++◌, length, take, Some, None, Option, sym, refl, ap, ◌∙◌, subst, arith, length-append, take_at, lt-ltb, ne_eqb, eqb-true}
 use borrow.Author.Tests.{clash, eqb-false}
 use Rattle.std.proofs.lemmas.Bool.Decides.{nat_tests}
 use Rattle.std.specs.List.{between, AllByRecursion as All}
 use Rattle.names.specs.Names.{before}
 use Rattle.tree.specs.Numbers.{be32, pad4}
-use Rattle.blob.specs.Tokens.{Tok, begin, property, end, nop, finish, text_at, on_text, within, begin_at, property_at, token_at}
+use Rattle.blob.specs.Tokens.{Tok, begin, property, end, nop, finish, text_at, begin_at, property_at, token_at}
 use Rattle.blob.specs.Grammar.{Text, IsToken, TokenSound, TokenComplete, TokenUnique, TokenAhead}
 use Rattle.blob.proofs.Steps.{token-next}
 use Rattle.blob.specs.declared.types.Layout.{Layout}

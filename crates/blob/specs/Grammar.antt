@@ -1,5 +1,5 @@
 -- What a header and a token are, in words of the format; `header` and `tokenAt` find them. Assumes nothing.
-use Rattle.std.specs.Prelude.{◌≡◌, ℕ, ◌+◌, ◌%◌, ◌<◌, ◌≤◌, List, [], ◌∷◌, ◌++◌, length, Some, None, Ok, Result, ◌≢◌, slice_index}
+use Rattle.std.specs.Prelude.{◌≡◌, ℕ, ◌+◌, ◌%◌, ◌<◌, ◌≤◌, List, ◌∷◌, ◌++◌, length, Some, Ok, Result, ◌≢◌, slice_index}
 use Rattle.std.specs.List.{between, AllByRecursion as All}
 use Rattle.tree.specs.Numbers.{be32, pad4}
 use Rattle.blob.specs.Header.{magic_number, total_size, structure_offset, strings_offset, reservation_offset, version_number, last_compatible, boot_cpu, strings_size, structure_size}

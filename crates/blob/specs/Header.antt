@@ -1,5 +1,5 @@
 -- The header of a blob: ten 32-bit numbers, big-endian, from its first byte on. Assumes nothing.
-use Rattle.std.specs.Prelude.{ℕ, ◌+◌, ◌%◌, ◌≤◌, Bool, true, false, cond, ◌&&◌, List, length, Ok, Err, Result, ◌==◌, nat_le}
+use Rattle.std.specs.Prelude.{ℕ, ◌+◌, ◌%◌, ◌≤◌, Bool, cond, ◌&&◌, List, length, Ok, Err, Result, ◌==◌, nat_le}
 use Rattle.std.specs.List.{between}
 use Rattle.names.specs.Names.{each}
 use Rattle.tree.specs.Numbers.{be32}

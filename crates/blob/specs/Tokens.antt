@@ -1,5 +1,5 @@
 -- The tokens of the structure block. Assumes nothing.
-use Rattle.std.specs.Prelude.{ℕ, suc, ◌+◌, ◌-◌, Bool, true, false, cond, List, [], ◌∷◌, length, take, Some, None, Option, ◌==◌, nat_le, nat_lt}
+use Rattle.std.specs.Prelude.{ℕ, ◌+◌, cond, List, length, take, Some, None, Option, ◌==◌, nat_le, nat_lt}
 use Rattle.std.specs.List.{between}
 use Rattle.names.specs.Names.{before}
 use Rattle.tree.specs.Numbers.{be32, pad4}

@@ -4,9 +4,9 @@ use Rattle.reader.specs.Handing.{ahead}
 use Rattle.reader.proofs.Handing.{hand_on, ahead_none, ahead-some}
 use Rattle.reader.proofs.cursor.item_from.Goals as goal
 
-pub returns-in-default : goal.returns-in-default
-returns-in-default c =
-    let s = ahead_none c.args.blob.now.bytes.now c.args.blob.now.layout c.loop-step.at (sym c.in-default.ensures.value) in
+pub returns-in_default : goal.returns-in_default
+returns-in_default c =
+    let s = ahead_none c.args.blob.now.bytes.now c.args.blob.now.layout c.loop-step.at (sym c.in_default.ensures.value) in
     record { item = c.loop-step.invariant.2 ∙ s; bounds = tt }
 
 pub returns-in-Begin : goal.returns-in-Begin

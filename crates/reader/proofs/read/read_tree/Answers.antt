@@ -4,9 +4,9 @@ use Rattle.std.proofs.lemmas.Bool.Decides.{nat_tests}
 use Rattle.reader.proofs.Passing.{verdict-none, verdict-some}
 use Rattle.reader.proofs.read.read_tree.Goals as goal
 
-pub returns-in-default : goal.returns-in-default
-returns-in-default c =
-    let s = verdict-none c.args.blob.now.bytes.now c.args.blob.now.layout c.loop-step.p [] c.loop-step.counts (sym c.in-default.ensures.value) in
+pub returns-in_default : goal.returns-in_default
+returns-in_default c =
+    let s = verdict-none c.args.blob.now.bytes.now c.args.blob.now.layout c.loop-step.p [] c.loop-step.counts (sym c.in_default.ensures.value) in
     grind (arith, nat_tests)
 
 pub returns-then-counts-ne0 : goal.returns-then-counts-ne0
@@ -23,7 +23,7 @@ pub returns-in-err-p : goal.returns-in-err-p
 returns-in-err-p c =
     let s = verdict-some c.args.blob.now.bytes.now c.args.blob.now.layout c.loop-step.p [] c.loop-step.counts _ _ (sym c.in-Some.ensures.value) in
     let f = c.in-err-p.ensures [] in
-    let r = err_from_is_err_and c.from-residual.result c.from-residual.ensures.1 in
+    let r = err_from_is_err_and c.from_residual.result c.from_residual.ensures.1 in
     rw (r.1, r.2) (grind (arith, nat_tests))
 
 pub loop-step-preserved-in-Begin : goal.loop-step-preserved-in-Begin
