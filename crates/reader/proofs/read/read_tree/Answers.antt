@@ -19,17 +19,17 @@ returns-then-name-ne0 c =
     let s = verdict-some c.args.blob.now.bytes.now c.args.blob.now.layout c.loop-step.p [] c.loop-step.counts _ _ (sym c.in-Some.ensures.value) in
     grind (arith, nat_tests)
 
-pub returns-in-err-p : goal.returns-in-err-p
-returns-in-err-p c =
+pub returns-in_err-p-in-Begin : goal.returns-in_err-p-in-Begin
+returns-in_err-p-in-Begin c =
     let s = verdict-some c.args.blob.now.bytes.now c.args.blob.now.layout c.loop-step.p [] c.loop-step.counts _ _ (sym c.in-Some.ensures.value) in
-    let f = c.in-err-p.ensures [] in
+    let f = c.in_err-p-in-Begin.ensures [] in
     let r = err_from_is_err_and c.from_residual.result c.from_residual.ensures.1 in
     rw (r.1, r.2) (grind (arith, nat_tests))
 
 pub loop-step-preserved-in-Begin : goal.loop-step-preserved-in-Begin
 loop-step-preserved-in-Begin c =
     let s = verdict-some c.args.blob.now.bytes.now c.args.blob.now.layout c.loop-step.p [] c.loop-step.counts _ _ (sym c.in-Some.ensures.value) in
-    let f = c.in-ok-p.ensures in
+    let f = c.in_ok-p-in-Begin.ensures in
     let g = f.4 [] in
     let u = f.3.used in
     (f.1, omega arith, grind (arith, nat_tests))
