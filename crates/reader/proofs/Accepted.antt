@@ -1,26 +1,25 @@
 -- Tokens that are accepted are those of a blob. Assumes nothing.
-use Rattle.std.proofs.Common.{◌≡◌, ℕ, ◌+◌, ◌<◌, ◌≤◌, Bool, true, false, cond, not, ◌&&◌, ◌||◌, eqb, ltb, leb, List, [], ◌∷◌, ◌++◌, length, Some, None, Ok, Err, Option, Result, sym, refl, ap, ◌∙◌, subst, append_assoc, append-nil, arith, length-append}
+use Rattle.std.proofs.Common.{◌≡◌, ℕ, ◌+◌, ◌<◌, ◌≤◌, true, false, List, [], ◌∷◌, ◌++◌, length, Some, None, Ok, Err, Option, Result, sym, refl, ap, ◌∙◌, subst, append_assoc, append-nil, arith}
 use Rattle.std.proofs.lemmas.Bool.Decides.{nat_tests}
-use Rattle.std.proofs.lemmas.Bool.{and_parts, and_from, leb-true, le-leb, both_ways, ltb-true, not-true}
+use Rattle.std.proofs.lemmas.Bool.{and_from, le-leb, both_ways}
 use Rattle.names.specs.Names.{each, node_name, property_name}
-use Rattle.names.specs.Paths.{root, stem, child, leaf}
-use Rattle.tree.specs.Numbers.{pad4}
-use Rattle.tree.specs.Places.{Bytes, node_at, property_at}
-use Rattle.tree.specs.Entries.{Entry, listed}
+use Rattle.names.specs.Paths.{root, stem, child}
+use Rattle.tree.specs.Places.{Bytes}
+use Rattle.tree.specs.Entries.{Entry}
 use Rattle.blob.specs.Tokens.{Tok, begin, property, end, nop, finish}
-use Rattle.blob.specs.Lexing.{Tokens, tokens_from, Follow}
+use Rattle.blob.specs.Lexing.{Tokens, Follow}
 use Rattle.blob.specs.Grammar.{IsToken}
 use Rattle.blob.specs.declared.types.Layout.{Layout}
 use Rattle.blob.specs.declared.types.Refusal.{Refusal}
 use Rattle.reader.specs.declared.counts.Counts.{Counts}
-use Rattle.reader.specs.Verdict.{has, Open, opened, kids, with_node, with_property, node_fits, property_fits, none, root_only, Next, next, next_at, follow, verdict}
+use Rattle.reader.specs.Verdict.{has, Open, opened, kids, with_node, with_property, node_fits, property_fits, none, root_only, next_at, follow, verdict}
 use Rattle.reader.specs.Format.{Spelt, Fills, fill_none, fill_more, keep_on, kept, node_entry, property_entry, distinct, Properties, no_property, a_property, Node, a_node, Body, a_body, Nodes, no_node, more_nodes, Root, a_root, within}
-use Rattle.reader.specs.Reading.{sound_on, sound, path_in, innermost, outer, entry_on, entries}
+use Rattle.reader.specs.Reading.{sound_on, sound, entries}
 use Rattle.blob.proofs.Shapes.{token-ahead}
 use Rattle.names.proofs.PathLaws.{child_length}
 use Rattle.reader.proofs.Children.{leaf-of, stem-of}
 use Rattle.reader.proofs.Distinct.{distinct_push, distinct_shift, distinct-end, kids-distinct}
-use Rattle.reader.proofs.Tallied.{short, plus, plus_append, plus_none, plus-property, plus-node, plus-root, Fits, fits-within}
+use Rattle.reader.proofs.Tallied.{short, plus, plus_none, plus-property, plus-node, plus-root, Fits, fits-within}
 
 -- the sound tokens, skipped ones too
 abbrev pub raw_on : ℕ → Option Tok → Spelt → Spelt

@@ -1,7 +1,7 @@
 -- What a child's path weighs and measures. Assumes nothing.
-use Rattle.std.proofs.Common.{◌≡◌, ℕ, true, length, sym, refl, ap, ◌∙◌, subst, arith}
+use Rattle.std.proofs.Common.{◌≡◌, true, length, ap, arith}
 use Rattle.names.specs.Names.{node_name}
-use Rattle.names.specs.Paths.{root, stem, child, leaf}
+use Rattle.names.specs.Paths.{stem, child, leaf}
 use Rattle.names.proofs.NameLaws.{node_names}
 use Rattle.names.proofs.PathLaws.{child_leaf, child_longer, stem-other}
 use Rattle.tree.specs.Places.{Bytes}

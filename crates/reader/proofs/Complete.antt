@@ -1,5 +1,5 @@
 -- The tokens of a blob within the limits are accepted. Assumes nothing.
-use Rattle.std.proofs.Common.{◌≡◌, ℕ, ◌+◌, ◌<◌, ◌≤◌, Bool, true, false, cond, not, ◌&&◌, ◌||◌, eqb, ltb, leb, List, [], ◌∷◌, ◌++◌, map, length, Some, None, Ok, Err, Option, Result, sym, refl, ap, ◌∙◌, subst, append_assoc, append-nil, arith}
+use Rattle.std.proofs.Common.{◌≡◌, ℕ, ◌+◌, ◌≤◌, true, false, eqb, leb, List, [], ◌∷◌, ◌++◌, length, Some, Ok, Result, sym, refl, ap, ◌∙◌, subst, append_assoc, append-nil, arith}
 use Rattle.std.proofs.lemmas.Bool.Decides.{nat_tests}
 use Rattle.std.proofs.lemmas.Bool.{and_parts, leb-true, ne_eqb}
 use Rattle.names.specs.Names.{each, node_name, property_name}
@@ -10,9 +10,9 @@ use Rattle.blob.specs.Tokens.{Tok, begin, property, end, nop, finish}
 use Rattle.blob.specs.Lexing.{Tokens}
 use Rattle.blob.specs.declared.types.Refusal.{Refusal}
 use Rattle.reader.specs.declared.counts.Counts.{Counts}
-use Rattle.reader.specs.Verdict.{has, Open, opened, kids, with_node, with_property, node_fits, property_fits, none, root_only, Next, stop, go, next, next_at, follow, verdict}
+use Rattle.reader.specs.Verdict.{has, Open, opened, kids, with_node, with_property, node_fits, property_fits, none, root_only, Next, stop, go, next, follow, verdict}
 use Rattle.reader.specs.Format.{Spelt, keep_on, kept, node_entry, property_entry, distinct, Properties, no_property, a_property, Node, a_node, Body, a_body, Nodes, no_node, more_nodes, Root, a_root, within}
-use Rattle.reader.specs.Reading.{sound_on, sound, path_in, innermost, outer, entry_on, entries}
+use Rattle.reader.specs.Reading.{sound, entries}
 use Rattle.names.proofs.PathLaws.{child_length}
 use Rattle.reader.proofs.Children.{leaf-of, stem-of}
 use Rattle.reader.proofs.Distinct.{distinct_apart, distinct_shift}

@@ -1,9 +1,9 @@
 -- Lists of names with none twice. Assumes nothing.
-use Rattle.std.proofs.Common.{◌≡◌, ℕ, Bool, true, false, cond, not, ◌&&◌, ◌||◌, List, [], ◌∷◌, ◌++◌, sym, refl, ap, ◌∙◌, subst, append_assoc, append-nil, arith}
+use Rattle.std.proofs.Common.{◌≡◌, true, false, cond, not, ◌||◌, List, [], ◌∷◌, ◌++◌, sym, refl, ap, append_assoc, append-nil, arith}
 use Rattle.std.specs.Str.{bytes_eq}
 use Rattle.std.proofs.lemmas.Slice.Eq.{bytes_eq-Decides}
 use Rattle.std.proofs.lemmas.Bool.Decides.{nat_tests, same_from_decides}
-use Rattle.std.proofs.lemmas.Bool.{and_parts, not-true, not_from_false, or_parts, or_from, and_from}
+use Rattle.std.proofs.lemmas.Bool.{and_parts, or_parts}
 use Rattle.tree.specs.Places.{Bytes}
 use Rattle.reader.specs.Verdict.{has, Open, kids}
 use Rattle.reader.specs.Format.{distinct}

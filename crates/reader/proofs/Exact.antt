@@ -1,5 +1,5 @@
 -- A blob is accepted exactly where it is one within the limits, and with its entries. Assumes nothing.
-use Rattle.std.proofs.Common.{◌≡◌, ℕ, ◌+◌, ◌^◌, ◌<◌, ◌≤◌, true, List, [], ◌∷◌, ◌++◌, Some, None, Ok, Err, Option, Result, sym, refl, ap, ◌∙◌, subst, arith}
+use Rattle.std.proofs.Common.{◌≡◌, ℕ, ◌^◌, ◌<◌, true, List, [], ◌∷◌, ◌++◌, Some, None, Ok, Err, Option, Result, sym, refl, ap, ◌∙◌, subst, arith}
 use Rattle.tree.specs.Places.{Bytes}
 use Rattle.tree.specs.Entries.{Entry, listed, tree_of, well_listed}
 use Rattle.tree.specs.Trees.{roomy, Sound}
@@ -8,9 +8,8 @@ use Rattle.std.proofs.lemmas.Bool.{and_parts}
 use Rattle.reader.specs.Handing.{named_tokens, until}
 use Rattle.reader.proofs.Handing.{root-named}
 use Rattle.reader.proofs.Listed.{root-listed}
-use Rattle.blob.specs.Grammar.{Header, IsToken}
 use Rattle.blob.specs.Header.{header}
-use Rattle.blob.specs.Lexing.{Tokens, tokens_from}
+use Rattle.blob.specs.Lexing.{tokens_from}
 use Rattle.blob.specs.Tokens.{Tok, token_at}
 use Rattle.blob.specs.declared.types.Layout.{Layout}
 use Rattle.blob.specs.declared.types.Refusal.{Refusal}

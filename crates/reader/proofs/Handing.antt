@@ -1,5 +1,5 @@
 -- What is still to be handed out, one token on. Assumes nothing.
-use Rattle.std.proofs.Common.{◌≡◌, ℕ, true, List, [], ◌∷◌, Some, None, sym, refl, ap, ◌∙◌}
+use Rattle.std.proofs.Common.{◌≡◌, ℕ, true, List, [], ◌∷◌, Some, None, refl, ap}
 use Rattle.tree.specs.Places.{Bytes}
 use Rattle.blob.specs.Lexing.{tokens_from}
 use Rattle.blob.specs.Tokens.{Tok, begin, property, end, nop, finish, token_at}

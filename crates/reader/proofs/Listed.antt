@@ -1,22 +1,20 @@
 -- The entries of a blob within the limits come in a good order: parents first, each at a place of its own. Assumes nothing.
-use Rattle.std.proofs.Common.{◌≡◌, ℕ, ◌+◌, ◌<◌, ◌≤◌, Bool, true, false, cond, not, ◌&&◌, ◌||◌, eqb, leb, ◌⊎◌, List, [], ◌∷◌, ◌++◌, length, Some, None, Option, sym, refl, ap, ◌∙◌, subst, inl, inr, ⊎_elim, append_assoc, append-nil, arith, length-append}
+use Rattle.std.proofs.Common.{◌≡◌, ℕ, ◌<◌, true, false, not, List, [], ◌∷◌, ◌++◌, length, Some, None, Option, sym, refl, ap, ◌∙◌, subst, ⊎_elim, append_assoc, append-nil, arith, length-append}
 use Rattle.std.proofs.lemmas.Bool.Decides.{nat_tests}
 use Rattle.std.proofs.lemmas.Slice.Eq.{bytes_eq-Decides}
-use Rattle.std.proofs.lemmas.Bool.{and_parts, and_from, or_parts, or_from, or_cases, both_ways, cases_Bool, true≢false}
+use Rattle.std.proofs.lemmas.Bool.{and_parts, and_from, or_parts, or_from, both_ways, cases_Bool, true≢false}
 use Rattle.std.specs.List.{AllByRecursion}
 use Rattle.std.specs.Str.{bytes_eq}
-use Rattle.names.specs.Names.{each, node_name, property_name}
+use Rattle.names.specs.Names.{each, node_name}
 use Rattle.names.specs.Orders.{name_order, path_order}
 use Rattle.names.specs.PathLaws.{further}
-use Rattle.names.specs.Paths.{root, stem, child, parent, leaf, plain, path_text}
+use Rattle.names.specs.Paths.{root, stem, child, parent, plain, path_text}
 use Rattle.names.proofs.NameLaws.{node_names}
 use Rattle.names.proofs.Orders.{siblings_below, name_order_lem, path_order_lem}
-use Rattle.names.proofs.PathLaws.{child_parent, child_text, child_longer, stem-other}
-use Rattle.tree.specs.Places.{Bytes, Place, node_at, property_at, order}
-use Rattle.tree.specs.Trees.{named_place, short_place, up_place}
-use Rattle.tree.specs.Entries.{Entry, same_place, among_places, bare, listed_next, listed_from, well_listed}
+use Rattle.names.proofs.PathLaws.{child_parent, child_text, child_longer}
+use Rattle.tree.specs.Places.{Bytes, Place, node_at, property_at}
+use Rattle.tree.specs.Entries.{Entry, same_place, among_places, listed_next, listed_from, well_listed}
 use Rattle.tree.proofs.Listed.{same_self, same-only}
-use Rattle.blob.specs.Tokens.{Tok, begin, property, end, finish}
 use Rattle.reader.specs.Verdict.{has}
 use Rattle.reader.specs.Format.{Spelt, node_entry, property_entry, distinct, Properties, no_property, a_property, Node, a_node, Body, a_body, Nodes, no_node, more_nodes, Root, a_root, within}
 use Rattle.reader.proofs.Children.{stem-of}

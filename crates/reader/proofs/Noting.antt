@@ -1,12 +1,12 @@
 -- One name more in the table. Assumes nothing.
-use Rattle.std.proofs.Common.{◌≡◌, ℕ, suc, ◌+◌, ◌-◌, ◌<◌, ◌≤◌, List, [], ◌∷◌, ◌++◌, length, take, drop, set, Some, sym, refl, ap, ◌∙◌, subst, append_assoc, arith, length-take}
+use Rattle.std.proofs.Common.{◌≡◌, ℕ, ◌+◌, ◌-◌, ◌<◌, ◌≤◌, List, [], ◌∷◌, ◌++◌, length, take, drop, set, Some, sym, ap, ◌∙◌, append_assoc, arith, length-take}
 use Rattle.std.specs.List.{between}
 use Rattle.std.proofs.lemmas.List.{take-append-drop, take_more_set, take-set-le, drop-append-le}
 use Rattle.std.proofs.lemmas.Slice.{between_is}
 use Rattle.tree.specs.Places.{Bytes}
 use Rattle.tree.specs.Numbers.{be32}
-use Rattle.blob.specs.Grammar.{Text, Begins, Holds}
-use Rattle.blob.specs.Tokens.{Tok, begin, property, token_at}
+use Rattle.blob.specs.Grammar.{Text}
+use Rattle.blob.specs.Tokens.{begin, property, token_at}
 use Rattle.blob.specs.declared.types.Layout.{Layout}
 use Rattle.blob.proofs.Shapes.{token-sound}
 use Rattle.reader.specs.declared.seen.Seen.{Seen}

@@ -1,11 +1,10 @@
 -- One token of the reading, and what a child's body leaves. Assumes nothing.
-use Rattle.std.proofs.Common.{◌≡◌, ℕ, ◌+◌, ◌-◌, ◌<◌, ◌≤◌, Bool, true, false, cond, List, [], ◌∷◌, ◌++◌, length, take, drop, set, Some, None, Ok, Err, Result, sym, refl, ap, ◌∙◌, subst, arith}
+use Rattle.std.proofs.Common.{◌≡◌, ℕ, ◌+◌, ◌-◌, ◌≤◌, Bool, true, false, cond, List, [], ◌∷◌, ◌++◌, length, take, drop, Some, None, Ok, Err, Result, sym, ap, ◌∙◌, arith}
 use Rattle.std.specs.List.{between}
 use Rattle.std.proofs.lemmas.List.{take-take}
 use Rattle.std.proofs.lemmas.Slice.{between_is}
 use Rattle.names.specs.Names.{node_name}
 use Rattle.tree.specs.Places.{Bytes}
-use Rattle.blob.specs.Lexing.{tokens_from}
 use Rattle.blob.specs.Tokens.{Tok, begin, token_at}
 use Rattle.blob.specs.declared.types.Layout.{Layout}
 use Rattle.blob.specs.declared.types.Refusal.{Refusal}
@@ -13,7 +12,7 @@ use Rattle.blob.specs.declared.types.Refusal.TheVariants.{Token, Name, Limit}
 use Rattle.blob.proofs.Lexed.{tokens_none, tokens-some}
 use Rattle.reader.specs.declared.counts.Counts.{Counts}
 use Rattle.reader.specs.declared.seen.Seen.{Seen}
-use Rattle.reader.specs.Passing.{Bounded, Named, Restored, from, Passed}
+use Rattle.reader.specs.Passing.{Named, Restored, from, Passed}
 use Rattle.reader.specs.Seen.{Spells}
 use Rattle.reader.specs.Verdict.{has, Open, opened, kids, with_node, node_fits, next, follow, verdict}
 

@@ -1,12 +1,12 @@
 -- Counts of entries, one entry at a time. Assumes nothing.
-use Rattle.std.proofs.Common.{◌≡◌, ℕ, ◌+◌, ◌<◌, ◌≤◌, Bool, true, false, cond, not, ◌&&◌, ◌||◌, ltb, leb, List, [], ◌∷◌, ◌++◌, map, length, Some, None, sym, refl, ap, ◌∙◌, subst, add-zero, add_assoc, arith, length-append}
+use Rattle.std.proofs.Common.{◌≡◌, ℕ, ◌+◌, ◌≤◌, Bool, true, ◌&&◌, List, [], ◌∷◌, ◌++◌, length, refl, ap, ◌∙◌, arith}
 use Rattle.std.proofs.lemmas.Bool.Decides.{nat_tests}
-use Rattle.std.proofs.lemmas.Bool.{and_parts, and_from, leb-true, le-leb}
-use Rattle.names.specs.Names.{each, node_name}
-use Rattle.names.specs.Paths.{root, stem, child, leaf, behind_last}
+use Rattle.std.proofs.lemmas.Bool.{and_parts}
+use Rattle.names.specs.Names.{each}
+use Rattle.names.specs.Paths.{root, child, leaf, behind_last}
 use Rattle.tree.specs.Maps.{total}
 use Rattle.tree.specs.Numbers.{pad4}
-use Rattle.tree.specs.Places.{Bytes, Place, node_at, property_at}
+use Rattle.tree.specs.Places.{Bytes, Place}
 use Rattle.tree.specs.Trees.{Places, node_count, property_count, weigh, nodes, properties, weight, roomy, short_place}
 use Rattle.tree.specs.Entries.{Entry, listed}
 use Rattle.reader.specs.declared.counts.Counts.{Counts}

@@ -1,5 +1,5 @@
 -- The flattened format in its own words: which bytes list which entries. Nothing here says how to read. Assumes nothing.
-use Rattle.std.specs.Prelude.{◌≡◌, ℕ, Bool, true, false, not, ◌&&◌, List, [], ◌∷◌, ◌++◌, map}
+use Rattle.std.specs.Prelude.{◌≡◌, ℕ, Bool, true, not, ◌&&◌, List, [], ◌∷◌, ◌++◌}
 use Rattle.names.specs.Names.{each, node_name, property_name}
 use Rattle.names.specs.Paths.{root, child}
 use Rattle.tree.specs.Places.{Bytes, node_at, property_at}

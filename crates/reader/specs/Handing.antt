@@ -1,5 +1,5 @@
 -- The tokens that are handed out, one at a time. Assumes nothing.
-use Rattle.std.specs.Prelude.{◌≡◌, ℕ, Bool, true, false, ◌&&◌, List, [], ◌∷◌, length, Some, None, Option, ◌==◌}
+use Rattle.std.specs.Prelude.{◌≡◌, ℕ, Bool, true, false, ◌&&◌, [], ◌∷◌, length, Some, None, Option, ◌==◌}
 use Rattle.names.specs.Names.{each, node_name}
 use Rattle.tree.specs.Places.{Bytes}
 use Rattle.blob.specs.Tokens.{Tok, begin, property, end, nop, finish}

@@ -1,6 +1,6 @@
 -- What the inner functions of the reader do to the rest of the reading, to the counts and to the table of names.
 -- Assumes nothing.
-use Rattle.std.specs.Prelude.{◌≡◌, ℕ, ◌+◌, ◌≤◌, List, [], ◌∷◌, ◌++◌, take, Some, None, Ok, Err, Option, Result}
+use Rattle.std.specs.Prelude.{◌≡◌, ℕ, ◌+◌, ◌≤◌, List, [], ◌∷◌, ◌++◌, take, Some, None, Ok, Err, Result}
 use Rattle.std.specs.List.{between}
 use Rattle.tree.specs.Places.{Bytes}
 use Rattle.blob.specs.Lexing.{tokens_from}

@@ -1,5 +1,5 @@
 -- What reading a blob comes to: its entries in order, or the refusal. Assumes nothing.
-use Rattle.std.specs.Prelude.{◌≡◌, ℕ, true, List, [], ◌∷◌, ◌++◌, Some, None, Ok, Err, Option, Result}
+use Rattle.std.specs.Prelude.{◌≡◌, ℕ, true, List, [], ◌∷◌, Some, None, Ok, Err, Option, Result}
 use Rattle.names.specs.Paths.{root, child}
 use Rattle.tree.specs.Places.{Bytes}
 use Rattle.tree.specs.Entries.{Entry, listed}

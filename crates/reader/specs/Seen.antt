@@ -1,5 +1,5 @@
 -- The names that an open node has so far, as a table of the offsets where they begin. Assumes nothing.
-use Rattle.std.specs.Prelude.{◌≡◌, ℕ, Bool, true, false, not, ◌&&◌, ◌||◌, List, [], ◌∷◌, ◌++◌, drop, ◌==◌, ◌≢◌}
+use Rattle.std.specs.Prelude.{◌≡◌, ℕ, Bool, false, not, ◌&&◌, ◌||◌, List, [], ◌∷◌, ◌++◌, drop, ◌==◌, ◌≢◌}
 use Rattle.std.specs.List.{AllByRecursion as All}
 use Rattle.tree.specs.Places.{Bytes}
 

@@ -1,4 +1,4 @@
-use Rattle.std.proofs.Common.{◌≡◌, sym, refl, ap, ◌∙◌, arith}
+use Rattle.std.proofs.Common.{sym, ap, ◌∙◌, arith}
 use Rattle.blob.specs.Tokens.{tok_of}
 use Rattle.reader.specs.Handing.{ahead}
 use Rattle.reader.proofs.Handing.{hand_on, ahead_none, ahead-some}

@@ -1,8 +1,8 @@
-use Rattle.std.proofs.Common.{◌≡◌, ◌+◌, true, false, List, [], ◌∷◌, ◌++◌, length, sym, refl, ap, ◌∙◌, arith}
+use Rattle.std.proofs.Common.{◌≡◌, ◌+◌, true, false, [], ◌∷◌, ◌++◌, length, sym, refl, ap, ◌∙◌, arith}
 use Rattle.std.proofs.lemmas.Result.{err_from_is_err_and}
 use Rattle.std.proofs.lemmas.Bool.Decides.{nat_tests}
 use Rattle.reader.specs.Passing.{from}
-use Rattle.reader.specs.Verdict.{Open, opened, kids, with_node}
+use Rattle.reader.specs.Verdict.{opened, kids, with_node}
 use Rattle.reader.proofs.Begun.{among-has}
 use Rattle.reader.proofs.Noting.{push-named, node-stands}
 use Rattle.reader.proofs.Passing.{verdict-none, verdict-some, node_bad, node-used, node_over, node-entered, kin-named, named_then, named_restored, passed-node}

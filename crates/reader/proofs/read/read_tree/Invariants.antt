@@ -1,5 +1,5 @@
 use Rattle.std.proofs.Common.{◌≡◌, ◌-◌, ◌≤◌, []}
-use Rattle.reader.specs.Passing.{Bounded, from}
+use Rattle.reader.specs.Passing.{from}
 use Rattle.reader.specs.Verdict.{none}
 use Rattle.reader.proofs.read.read_tree.Given as goal
 

@@ -1,4 +1,4 @@
-use Rattle.std.proofs.Common.{◌≡◌, sym, refl, ap, ◌∙◌, subst}
+use Rattle.std.proofs.Common.{sym, subst}
 use Rattle.blob.proofs.Heads.{header-within}
 use Rattle.reader.specs.Handing.{ahead, Starts}
 use Rattle.reader.proofs.Handing.{starts}

@@ -1,4 +1,4 @@
-use Rattle.std.proofs.Common.{◌≡◌, ◌≤◌}
+use Rattle.std.proofs.Common.{◌≡◌}
 use Rattle.std.specs.List.{between}
 use Rattle.reader.specs.Seen.{among}
 use Rattle.reader.proofs.seen.Seen.has.Given as goal
