@@ -8,19 +8,19 @@ use Rattle.listing.proofs.page.list_good.Goals as goal
 pub returns : goal.returns
 returns c =
     let f = c.args.flat.now in
-    let v = c.as-slice.ensures.value in
+    let v = c.as_slice.ensures.value in
     let s = c.tokens.ensures c.requires.layout in
     page-made
     c.args.file.now
     f.layout.boot
     f.counts
     (entries_of f.bytes.now f.layout)
-    (placed (vec_items c.in-ok-collect-rows.field-0))
-    (placed (vec_items c.in-ok-rows.rows))
-    (vec_items c.in-ok-out.out)
-    (vec_items c.push-rows.new.out)
+    (placed (vec_items c.in_ok-collect_rows.field-0))
+    (placed (vec_items c.in_ok-rows.rows))
+    (vec_items c.in_ok-out.out)
+    (vec_items c.push_rows.new.out)
     c.requires.tally
-    (rw (c.boot-cpu.ensures, c.counts.ensures) at c.in-ok-out.ensures)
-    (c.in-ok-collect-rows.ensures ∙ ap listed s.entries)
-    c.in-ok-rows.ensures
-    (rw v at c.in-ok-push-rows.ensures)
+    (rw (c.boot_cpu.ensures, c.counts.ensures) at c.in_ok-out.ensures)
+    (c.in_ok-collect_rows.ensures ∙ ap listed s.entries)
+    c.in_ok-rows.ensures
+    (rw v at c.in_ok-push_rows.ensures)

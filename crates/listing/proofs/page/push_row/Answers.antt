@@ -10,24 +10,24 @@ use Rattle.listing.proofs.page.push_row.Goals.{in-Some+in-ok-push+in-ok-extend-f
 pub returns : goal.returns
 returns c =
     let r = c.args.row.now in
-    let a = c.in-ok-extend-from-slice.ensures.items in
-    let b : vec_items c.match-row.out ≡ vec_items c.extend-from-slice.new.self ++ property_text (option_map (λ x. x.now) r.name) r.value.now =
+    let a = c.in_ok-extend_from_slice.ensures.items in
+    let b : vec_items c.match-row.out ≡ vec_items c.extend_from_slice.new.self ++ property_text (option_map (λ x. x.now) r.name) r.value.now =
     elim c.match-row.branch [
       | in-Some+in-ok-push+in-ok-extend-from-slice-2+in-ok-push-value w ↦
           property-some r.name w.in-Some.name r.value.now _ _ w.in-Some.is
           (ap vec_items w.out-is
           ∙ thrice
-          (vec_items c.extend-from-slice.new.self)
+          (vec_items c.extend_from_slice.new.self)
           _
           _
           _
           (32 ∷ [])
           w.in-Some.name.now
           (value_text r.value.now)
-          w.in-ok-push.ensures.items
-          w.in-ok-extend-from-slice-2.ensures.items
-          w.in-ok-push-value.ensures)
-      | in-default w ↦ property-none r.name r.value.now _ _ w.in-default.is (ap vec_items w.out-is)
+          w.in_ok-push.ensures.items
+          w.in_ok-extend_from_slice-2.ensures.items
+          w.in_ok-push_value.ensures)
+      | in_default w ↦ property-none r.name r.value.now _ _ w.in_default.is (ap vec_items w.out-is)
     ] in
     thrice
     (vec_items c.args.out.now)
@@ -37,6 +37,6 @@ returns c =
     (vec_items r.path)
     (property_text (option_map (λ x. x.now) r.name) r.value.now)
     (10 ∷ [])
-    (a ∙ ap (λ (l : Bytes). vec_items c.args.out.now ++ l) c.as-slice.ensures.value)
+    (a ∙ ap (λ (l : Bytes). vec_items c.args.out.now ++ l) c.as_slice.ensures.value)
     b
-    c.in-ok-push-2.ensures.items
+    c.in_ok-push-2.ensures.items

@@ -10,25 +10,25 @@ use Rattle.listing.proofs.page.push_value.Goals.{then-len-ne0+in-ok-push+in-ok-p
 pub returns : goal.returns
 returns c =
     let v = c.args.value.now in
-    let s = c.is-text.ensures in
-    let a = c.in-ok-extend-from-slice.ensures.items in
-    let b : vec_items c.if-len-ne0.out ≡ vec_items c.extend-from-slice.new.self ++ cond (ltb 0 (length v)) (32 ∷ hex v) [] =
+    let s = c.is_text.ensures in
+    let a = c.in_ok-extend_from_slice.ensures.items in
+    let b : vec_items c.if-len-ne0.out ≡ vec_items c.extend_from_slice.new.self ++ cond (ltb 0 (length v)) (32 ∷ hex v) [] =
     elim c.if-len-ne0.branch [
       | then-len-ne0+in-ok-push+in-ok-push-hex w ↦
           let n = w.if-len-ne0.true in
-          part_then (ltb 0 (length v)) _ _ _ (32 ∷ []) (hex v) (grind (arith, nat_tests)) w.in-ok-push.ensures.items (ap vec_items w.out-is ∙ w.in-ok-push-hex.ensures)
+          part_then (ltb 0 (length v)) _ _ _ (32 ∷ []) (hex v) (grind (arith, nat_tests)) w.in_ok-push.ensures.items (ap vec_items w.out-is ∙ w.in_ok-push_hex.ensures)
       | else-len-ne0 w ↦
           let n = w.if-len-ne0.false in
           part_else (ltb 0 (length v)) _ _ _ (grind (arith, nat_tests)) (ap vec_items w.out-is)
     ] in
-    let d : vec_items c.if-is-text.out ≡ vec_items c.if-len-ne0.out ++ cond (is_text v) (32 ∷ quoted v) [] =
-    elim c.if-is-text.branch [
+    let d : vec_items c.if-is_text.out ≡ vec_items c.if-len-ne0.out ++ cond (is_text v) (32 ∷ quoted v) [] =
+    elim c.if-is_text.branch [
       | then-is-text+in-ok-push-2+in-ok-push-quoted w ↦
-          part_then (is_text v) _ _ _ (32 ∷ []) (quoted v) (sym w.if-is-text.ensures) w.in-ok-push-2.ensures.items (ap vec_items w.out-is ∙ w.in-ok-push-quoted.ensures)
+          part_then (is_text v) _ _ _ (32 ∷ []) (quoted v) (sym w.if-is_text.ensures) w.in_ok-push-2.ensures.items (ap vec_items w.out-is ∙ w.in_ok-push_quoted.ensures)
       | else-is-text w ↦
-          part_else (is_text v) _ _ _ (sym w.if-is-text.ensures) (ap vec_items w.out-is)
+          part_else (is_text v) _ _ _ (sym w.if-is_text.ensures) (ap vec_items w.out-is)
     ] in
-    let e = c.as-bytes.ensures.value ∙ c.in-ok-count.ensures.ok in
+    let e = c.as_bytes.ensures.value ∙ c.in_ok-count.ensures.ok in
     thrice
     (vec_items c.args.out.now)
     _

@@ -21,18 +21,18 @@ returns-in-Begin c =
 
 pub returns-in-Property : goal.returns-in-Property
 returns-in-Property c =
-    let v = c.as-slice.ensures.value in
+    let v = c.as_slice.ensures.value in
     property-made
-    c.add-property.result
+    c.add_property.result
     (placed (vec_items c.args.rows.now))
-    (placed (vec_items c.add-property.new.rows))
+    (placed (vec_items c.add_property.new.rows))
     (stacked (vec_items c.args.trail.now))
     _
     c.in-Property.at
     c.in-Property.name
     c.in-Property.value
     c.in-Property.is
-    (rw v at c.add-property.ensures)
+    (rw v at c.add_property.ensures)
 
 pub returns-in-End : goal.returns-in-End
 returns-in-End c =

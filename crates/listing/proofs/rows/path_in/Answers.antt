@@ -10,18 +10,18 @@ use Rattle.listing.proofs.rows.path_in.Goals.{then-not-same-bytes+in-ok-extend-f
 pub returns-then-trail-eq0 : goal.returns-then-trail-eq0
 returns-then-trail-eq0 c =
     let e = path-none c.args.trail.now c.args.name.now c.if-trail-eq0.true in
-    root-made c.from-slice.result _ e c.from-slice.ensures.made
+    root-made c.from_slice.result _ e c.from_slice.ensures.made
 
 pub returns : goal.returns
 returns c =
     let h : 0 < length c.args.trail.now = omega arith in
     let e = path-some c.args.trail.now c.args.name.now h in
-    let s : vec_items c.if-not-same-bytes.path ≡ stem (innermost (stacked c.args.trail.now)) =
-    elim c.if-not-same-bytes.branch [
+    let s : vec_items c.if-not-same_bytes.path ≡ stem (innermost (stacked c.args.trail.now)) =
+    elim c.if-not-same_bytes.branch [
       | then-not-same-bytes+in-ok-extend-from-slice w ↦
           ap vec_items w.path_is
-          ∙ stem-kept _ _ _ _ c.new-path.ensures.items w.in-ok-extend-from-slice.ensures.items c.innermost-parent.ensures w.if-not-same-bytes.ensures
+          ∙ stem-kept _ _ _ _ c.new-path.ensures.items w.in_ok-extend_from_slice.ensures.items c.innermost-parent.ensures w.if-not-same_bytes.ensures
       | else-not-same-bytes w ↦
-          ap vec_items w.path_is ∙ stem-none _ _ _ c.new-path.ensures.items c.innermost-parent.ensures w.if-not-same-bytes.ensures
+          ap vec_items w.path_is ∙ stem-none _ _ _ c.new-path.ensures.items c.innermost-parent.ensures w.if-not-same_bytes.ensures
     ] in
-    child_built (innermost (stacked c.args.trail.now)) c.args.name.now _ _ _ s c.in-ok-push.ensures.items c.in-ok-extend-from-slice-2.ensures.items ∙ sym e
+    child_built (innermost (stacked c.args.trail.now)) c.args.name.now _ _ _ s c.in_ok-push.ensures.items c.in_ok-extend_from_slice-2.ensures.items ∙ sym e

@@ -5,27 +5,27 @@ use Rattle.listing.proofs.rows.put.Goals as goal
 
 pub remove-requires : goal.remove-requires
 remove-requires c =
-    let n = placed-length c.as-slice.result.now in
+    let n = placed-length c.as_slice.result.now in
     let h = c.in-Ok.ensures.0 in
-    omega (arith, n, h, c.as-slice.ensures.len)
+    omega (arith, n, h, c.as_slice.ensures.len)
 
 pub insert-requires : goal.insert-requires
 insert-requires c =
-    let n = placed-length c.as-slice.result.now in
+    let n = placed-length c.as_slice.result.now in
     let h = c.in-Ok.ensures.0 in
-    omega (arith, n, h, c.as-slice.ensures.len, c.remove.ensures.len)
+    omega (arith, n, h, c.as_slice.ensures.len, c.remove.ensures.len)
 
 pub insert-requires-in-Err : goal.insert-requires-in-Err
 insert-requires-in-Err c =
-    let n = placed-length c.as-slice.result.now in
+    let n = placed-length c.as_slice.result.now in
     let h = c.in-Err.ensures.0 in
-    omega (arith, n, h, c.as-slice.ensures.len)
+    omega (arith, n, h, c.as_slice.ensures.len)
 
 pub returns-in-ok-insert : goal.returns-in-ok-insert
 returns-in-ok-insert c =
-    let v = c.as-slice.ensures.value in
-    let n = placed-length c.as-slice.result.now in
-    let l : length c.as-slice.result.now ≡ length (vec_items c.args.rows.now) = ap length v in
+    let v = c.as_slice.ensures.value in
+    let n = placed-length c.as_slice.result.now in
+    let l : length c.as_slice.result.now ≡ length (vec_items c.args.rows.now) = ap length v in
     let h = c.in-Ok.ensures.0 in
     let q = c.in-Ok.ensures.1 in
     put_over
@@ -42,6 +42,6 @@ returns-in-ok-insert c =
 
 pub returns-in-ok-insert-2 : goal.returns-in-ok-insert-2
 returns-in-ok-insert-2 c =
-    let v = c.as-slice.ensures.value in
+    let v = c.as_slice.ensures.value in
     let q = c.in-Err.ensures.1 in
     put-before (vec_items c.args.rows.now) _ c.args.row c.in-Err.i _ c.in-ok-insert-2.ensures.items (rw v at q)

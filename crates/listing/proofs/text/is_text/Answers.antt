@@ -10,10 +10,10 @@ returns-then-not-began c =
     let n = c.if-not-began.true in
     text-none c.args.value.now _ z (grind (arith, nat_tests))
 
-pub returns-then-not-is-printable : goal.returns-then-not-is-printable
-returns-then-not-is-printable c =
+pub returns-then-not-is_printable : goal.returns-then-not-is_printable
+returns-then-not-is_printable c =
     let z = text-other _ _ _ c.loop-b-test.true c.loop-b.invariant c.if-b-eq0.false in
-    let n = c.if-not-is-printable.ensures in
+    let n = c.if-not-is_printable.ensures in
     text-none c.args.value.now _ z (grind (arith, nat_tests))
 
 pub loop-b-preserved : goal.loop-b-preserved
@@ -26,7 +26,7 @@ loop-b-preserved c =
           rw b (grind (arith, nat_tests))
       | else-b-eq0+else-not-is-printable w ↦
           let z = text-other _ _ _ c.loop-b-test.true c.loop-b.invariant w.if-b-eq0.false in
-          let n = w.if-not-is-printable.ensures in
+          let n = w.if-not-is_printable.ensures in
           let b = w.began-is in
           rw b (grind (arith, nat_tests))
     ]
