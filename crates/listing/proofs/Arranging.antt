@@ -1,5 +1,5 @@
 -- Steps of the loops that put rows into document order.
-use Rattle.std.proofs.Common.{◌≡◌, ℕ, suc, ◌+◌, ◌<◌, ◌≤◌, List, [], ◌∷◌, ◌++◌, map, length, get_or, take, drop, Ordering, Less, Equal, Greater, sym, refl, ap, ◌∙◌, append_assoc, append-nil, add-one, arith}
+use Rattle.std.proofs.Common.{◌≡◌, ℕ, suc, ◌+◌, ◌<◌, ◌≤◌, List, [], ◌∷◌, ◌++◌, length, get_or, take, drop, Ordering, Greater, sym, refl, ap, ◌∙◌, append_assoc, add-one, arith}
 use lib.ListN.{length-map}
 use Rattle.std.specs.List.{insert, remove}
 use Rattle.std.specs.Ordering.{match_ordering as by_order}
@@ -8,7 +8,7 @@ use Rattle.tree.specs.Maps.{upd}
 use Rattle.tree.specs.Places.{Bytes, Place, order}
 use Rattle.tree.specs.Trees.{Places}
 use Rattle.listing.specs.declared.rows.Row.{Row}
-use Rattle.listing.specs.Rows.{place_of, keyed, placed, with, Seated, arranged_on}
+use Rattle.listing.specs.Rows.{place_of, keyed, placed, with, arranged_on}
 
 -- one place against what comes first
 with_first : (k f : Place × Bytes) (qs : Places) (o : Ordering) → order k.0 f.0 ≡ o → with (f ∷ qs) k ≡ by_order o (k ∷ f ∷ qs) (k ∷ qs) (f ∷ with qs k)

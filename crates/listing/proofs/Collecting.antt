@@ -1,5 +1,5 @@
 -- Steps of the loop that makes a row of each node and property.
-use Rattle.std.proofs.Common.{◌≡◌, ℕ, ◌+◌, ◌-◌, ◌<◌, ◌≤◌, Bool, true, false, cond, ltb, List, [], ◌∷◌, ◌++◌, map, reverse, length, get_or, take, drop, is_some, IfOk, Some, None, Ok, Err, vec_items, vec_len, Option, Result, Vec, sym, refl, ap, ◌∙◌, append_assoc, append-nil, arith, Bor}
+use Rattle.std.proofs.Common.{◌≡◌, ℕ, ◌+◌, ◌-◌, ◌<◌, Bool, true, false, cond, ltb, List, [], ◌∷◌, ◌++◌, map, reverse, length, get_or, take, is_some, IfOk, Some, None, Ok, Err, vec_items, Option, Result, Vec, sym, refl, ap, ◌∙◌, append_assoc, append-nil, arith, Bor}
 use Rattle.std.specs.declared.alloc.Global.{Global}
 use Rattle.std.specs.Option.{option_to_list}
 use Rattle.std.specs.Str.{bytes_eq}
@@ -151,9 +151,9 @@ pub root-made :
     (r : Result (Vec ℕ Global) E)
     (path : Bytes) →
     path ≡ root →
-    IfOk r (λ v. (vec_items v ≡ root) × (vec_len v ≡ 1)) →
+    IfOk r (λ v. vec_items v ≡ root) →
     IfOk r (λ v. vec_items v ≡ path)
-root-made r path p h = IfOk-weaker r (λ v. (vec_items v ≡ root) × (vec_len v ≡ 1)) (λ v. vec_items v ≡ path) (λ v q. q.0 ∙ sym p) h
+root-made r path p h = IfOk-weaker r (λ v. vec_items v ≡ root) (λ v. vec_items v ≡ path) (λ v q. q ∙ sym p) h
 
 -- a row with this path behind the others
 pub row_more :

@@ -3,7 +3,7 @@ use Rattle.std.proofs.Common.{◌≡◌, ℕ, ◌+◌, ◌<◌, ◌≤◌, Bool,
 use Rattle.std.specs.Option.{option_map}
 use Rattle.std.proofs.lemmas.List.{at_drop_all}
 use Rattle.tree.specs.Entries.{Entry, listed, inserted}
-use Rattle.tree.specs.Places.{Bytes, Place}
+use Rattle.tree.specs.Places.{Bytes}
 use Rattle.tree.specs.Trees.{Places, nodes, properties, weight}
 use Rattle.reader.specs.declared.counts.Counts.{Counts}
 use Rattle.reader.specs.Reading.{Tally}

@@ -1,11 +1,11 @@
-use Rattle.std.proofs.Common.{◌≡◌, [], ◌∷◌, ◌++◌, vec_items, sym, refl, ap, ◌∙◌}
+use Rattle.std.proofs.Common.{◌≡◌, [], ◌∷◌, ◌++◌, vec_items, ap, ◌∙◌}
 use Rattle.std.specs.Option.{option_map}
 use Rattle.tree.specs.Places.{Bytes}
 use Rattle.listing.specs.Page.{property_text, value_text}
 use Rattle.listing.proofs.Paging.{property-some, property-none}
 use Rattle.listing.proofs.Shows.{thrice}
 use Rattle.listing.proofs.page.push_row.Goals as goal
-use Rattle.listing.proofs.page.push_row.Goals.{in-Some+in-ok-push+in-ok-extend-from-slice-2+in-ok-push-value, in-default}
+use Rattle.listing.proofs.page.push_row.Goals.{in-Some+in_ok-push+in_ok-extend_from_slice-2+in_ok-push_value, in_default}
 
 pub returns : goal.returns
 returns c =
@@ -13,7 +13,7 @@ returns c =
     let a = c.in_ok-extend_from_slice.ensures.items in
     let b : vec_items c.match-row.out ≡ vec_items c.extend_from_slice.new.self ++ property_text (option_map (λ x. x.now) r.name) r.value.now =
     elim c.match-row.branch [
-      | in-Some+in-ok-push+in-ok-extend-from-slice-2+in-ok-push-value w ↦
+      | in-Some+in_ok-push+in_ok-extend_from_slice-2+in_ok-push_value w ↦
           property-some r.name w.in-Some.name r.value.now _ _ w.in-Some.is
           (ap vec_items w.out-is
           ∙ thrice

@@ -1,5 +1,4 @@
-use Rattle.std.proofs.Common.{◌≡◌, ◌<◌, ◌≤◌, length, vec_items, sym, ap, ◌∙◌, arith}
-use Rattle.listing.specs.Rows.{placed, keyed, with}
+use Rattle.std.proofs.Common.{◌≡◌, length, vec_items, ap, arith}
 use Rattle.listing.proofs.Arranging.{put-before, put_over, placed-length}
 use Rattle.listing.proofs.rows.put.Goals as goal
 
@@ -21,8 +20,8 @@ insert-requires-in-Err c =
     let h = c.in-Err.ensures.0 in
     omega (arith, n, h, c.as_slice.ensures.len)
 
-pub returns-in-ok-insert : goal.returns-in-ok-insert
-returns-in-ok-insert c =
+pub returns-in_ok-insert-in-Ok : goal.returns-in_ok-insert-in-Ok
+returns-in_ok-insert-in-Ok c =
     let v = c.as_slice.ensures.value in
     let n = placed-length c.as_slice.result.now in
     let l : length c.as_slice.result.now ≡ length (vec_items c.args.rows.now) = ap length v in
@@ -37,11 +36,11 @@ returns-in-ok-insert c =
     _
     (omega (arith, n, h, l))
     c.remove.ensures.items
-    c.in-ok-insert.ensures.items
+    c.in_ok-insert-in-Ok.ensures.items
     (rw v at q)
 
-pub returns-in-ok-insert-2 : goal.returns-in-ok-insert-2
-returns-in-ok-insert-2 c =
+pub returns-in_ok-insert-in-Err : goal.returns-in_ok-insert-in-Err
+returns-in_ok-insert-in-Err c =
     let v = c.as_slice.ensures.value in
     let q = c.in-Err.ensures.1 in
-    put-before (vec_items c.args.rows.now) _ c.args.row c.in-Err.i _ c.in-ok-insert-2.ensures.items (rw v at q)
+    put-before (vec_items c.args.rows.now) _ c.args.row c.in-Err.i _ c.in_ok-insert-in-Err.ensures.items (rw v at q)

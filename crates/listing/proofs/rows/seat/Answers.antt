@@ -1,5 +1,4 @@
-use Rattle.std.proofs.Common.{◌≡◌, ◌<◌, ◌≤◌, length, Less, Equal, Greater, sym, ◌∙◌, arith}
-use Rattle.listing.specs.Rows.{placed}
+use Rattle.std.proofs.Common.{◌≡◌, length, Less, Equal, sym, arith}
 use Rattle.listing.proofs.Arranging.{seat_at, past_more, seat_last, placed-length}
 use Rattle.listing.proofs.rows.seat.Goals as goal
 

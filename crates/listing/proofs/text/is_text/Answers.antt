@@ -1,8 +1,8 @@
-use Rattle.std.proofs.Common.{sym, ◌∙◌, arith}
+use Rattle.std.proofs.Common.{arith}
 use Rattle.std.proofs.lemmas.Bool.Decides.{nat_tests}
 use Rattle.listing.proofs.Shows.{text-zero, text-other, text-none, text-all}
 use Rattle.listing.proofs.text.is_text.Goals as goal
-use Rattle.listing.proofs.text.is_text.Goals.{then-b-eq0+else-not-began, else-b-eq0+else-not-is-printable}
+use Rattle.listing.proofs.text.is_text.Goals.{then-b-eq0+else-not-began, else-b-eq0+else-not-is_printable}
 
 pub returns-then-not-began : goal.returns-then-not-began
 returns-then-not-began c =
@@ -24,7 +24,7 @@ loop-b-preserved c =
           let n = w.if-not-began.false in
           let b = w.began-is in
           rw b (grind (arith, nat_tests))
-      | else-b-eq0+else-not-is-printable w ↦
+      | else-b-eq0+else-not-is_printable w ↦
           let z = text-other _ _ _ c.loop-b-test.true c.loop-b.invariant w.if-b-eq0.false in
           let n = w.if-not-is_printable.ensures in
           let b = w.began-is in

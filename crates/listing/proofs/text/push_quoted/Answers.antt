@@ -1,4 +1,4 @@
-use Rattle.std.proofs.Common.{◌≡◌, ◌-◌, ◌<◌, [], ◌∷◌, ◌++◌, length, vec_items, sym, ap, ◌∙◌, append_assoc, arith}
+use Rattle.std.proofs.Common.{◌≡◌, ◌-◌, ◌<◌, [], ◌∷◌, length, vec_items, append_assoc, arith}
 use Rattle.listing.proofs.Shows.{shown-more, thrice}
 use Rattle.listing.proofs.text.push_quoted.Goals as goal
 

@@ -1,4 +1,4 @@
-use Rattle.std.proofs.Common.{◌≡◌, ◌-◌, [], ◌∷◌, ◌++◌, length, take, drop, vec_items}
+use Rattle.std.proofs.Common.{◌≡◌, ◌++◌, take, vec_items}
 use Rattle.listing.specs.Shown.{shown_bytes}
 use Rattle.listing.proofs.text.push_quoted.Given as goal
 
