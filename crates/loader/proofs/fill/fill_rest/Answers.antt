@@ -15,17 +15,17 @@ loop-item-init g c = (
       record { ls = []; paths = root ∷ []; split = sym f.lists; tree = m; named = f.named; here = sym c.new-trail.ensures.path; chain = refl },
 )
 
-pub returns-in-err-write-item : goal.returns-in-err-write-item
-returns-in-err-write-item g c = λ boot first es f m.
+pub returns-in_err-write_item : goal.returns-in_err-write_item
+returns-in_err-write_item g c = λ boot first es f m.
     let i = c.loop-item.invariant.1 boot first es f m in
     let h = c.in-Some.ensures.hands in
-    absurd (c.in-err-write-item.ensures.writes boot first es _ f.good f.room f.low
+    absurd (c.in_err-write_item.ensures.writes boot first es _ f.good f.room f.low
     (subst (λ xs. Going xs (path_on c.loop-item.trail) (g.S.Readable.meaning c.loop-item.store) boot es) h i))
 
 pub returns : goal.returns
 returns g c = λ boot first es f m.
     let i = c.loop-item.invariant.1 boot first es f m in
-    let h = c.in-default.ensures.hands in (
+    let h = c.in_default.ensures.hands in (
       refl,
       finished boot first es f.good f.room f.low (path_on c.loop-item.trail) (g.S.Readable.meaning c.loop-item.store)
           (subst (λ xs. Going xs (path_on c.loop-item.trail) (g.S.Readable.meaning c.loop-item.store) boot es) h.0 i),

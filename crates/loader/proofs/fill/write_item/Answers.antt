@@ -26,8 +26,8 @@ returns-else-not-enter g c =
       writes = λ boot first es xs good room low going.
           let e = enters boot first es good room low c.in-Begin.at c.in-Begin.name.now xs (path_on c.args.trail.now) (g.S.Readable.meaning c.args.store.now) (subst (λ i. Going (item_of i ∷ xs) (path_on c.args.trail.now) (g.S.Readable.meaning c.args.store.now) boot es) c.in-Begin.is going) (path-some c.args.trail.now c.requires) in
           let p : path_on c.enter.new.self ≡ child (path_on c.args.trail.now) c.in-Begin.name.now = c.enter.ensures.path ∙ ap (λ b. cond b (child (path_on c.args.trail.now) c.in-Begin.name.now) (path_on c.args.trail.now)) c.if-not-enter.false in
-          went xs c.add-node.result (child (path_on c.args.trail.now) c.in-Begin.name.now) (path_on c.enter.new.self) (changed (g.S.Readable.meaning c.args.store.now) (node_at (child (path_on c.args.trail.now) c.in-Begin.name.now)) (Some [])) _ (g.S.Readable.meaning c.args.store.now) (g.S.Readable.meaning c.add-node.new.self) boot es
-          (c.add-node.ensures.answer ∙ ap (add_node (g.S.Readable.meaning c.args.store.now)) (c.path.ensures ∙ p) ∙ e.granted) p (ap (λ q. changed (g.S.Readable.meaning c.args.store.now) (node_at q) (Some [])) (c.path.ensures ∙ p)) c.add-node.ensures.after e.going;
+          went xs c.add_node.result (child (path_on c.args.trail.now) c.in-Begin.name.now) (path_on c.enter.new.self) (changed (g.S.Readable.meaning c.args.store.now) (node_at (child (path_on c.args.trail.now) c.in-Begin.name.now)) (Some [])) _ (g.S.Readable.meaning c.args.store.now) (g.S.Readable.meaning c.add_node.new.self) boot es
+          (c.add_node.ensures.answer ∙ ap (add_node (g.S.Readable.meaning c.args.store.now)) (c.path.ensures ∙ p) ∙ e.granted) p (ap (λ q. changed (g.S.Readable.meaning c.args.store.now) (node_at q) (Some [])) (c.path.ensures ∙ p)) c.add_node.ensures.after e.going;
     }
 
 pub returns-in-Property : goal.returns-in-Property
@@ -36,9 +36,9 @@ returns-in-Property g c =
       short = c.requires;
       writes = λ boot first es xs good room low going.
           let e = sets boot first es good room low c.in-Property.at c.in-Property.name.now c.in-Property.value.now xs (path_on c.args.trail.now) (g.S.Readable.meaning c.args.store.now) (subst (λ i. Going (item_of i ∷ xs) (path_on c.args.trail.now) (g.S.Readable.meaning c.args.store.now) boot es) c.in-Property.is going) in
-          went xs c.set-property.result (path_on c.args.trail.now) (path_on c.args.trail.now) (changed (g.S.Readable.meaning c.args.store.now) (property_at (path_on c.args.trail.now) c.in-Property.name.now) (Some c.in-Property.value.now)) _ (g.S.Readable.meaning c.args.store.now) (g.S.Readable.meaning c.set-property.new.self) boot es
-          (c.set-property.ensures.answer ∙ ap (λ q. set_property (g.S.Readable.meaning c.args.store.now) q c.in-Property.name.now c.in-Property.value.now) c.path-in-Property.ensures ∙ e.granted) refl
-          (ap (λ q. changed (g.S.Readable.meaning c.args.store.now) (property_at q c.in-Property.name.now) (Some c.in-Property.value.now)) c.path-in-Property.ensures) c.set-property.ensures.after e.going;
+          went xs c.set_property.result (path_on c.args.trail.now) (path_on c.args.trail.now) (changed (g.S.Readable.meaning c.args.store.now) (property_at (path_on c.args.trail.now) c.in-Property.name.now) (Some c.in-Property.value.now)) _ (g.S.Readable.meaning c.args.store.now) (g.S.Readable.meaning c.set_property.new.self) boot es
+          (c.set_property.ensures.answer ∙ ap (λ q. set_property (g.S.Readable.meaning c.args.store.now) q c.in-Property.name.now c.in-Property.value.now) c.path-in-Property.ensures ∙ e.granted) refl
+          (ap (λ q. changed (g.S.Readable.meaning c.args.store.now) (property_at q c.in-Property.name.now) (Some c.in-Property.value.now)) c.path-in-Property.ensures) c.set_property.ensures.after e.going;
     }
 
 pub returns-in-End : goal.returns-in-End
