@@ -1,16 +1,16 @@
 -- Entries in a good order, written one after the other, make their tree, and each write is one that a store grants. Assumes nothing.
-use Rattle.std.proofs.Common.{◌≡◌, ℕ, ◌+◌, ◌^◌, ◌<◌, ◌≤◌, Bool, true, false, cond, not, ◌&&◌, ◌||◌, eqb, leb, ◌⊎◌, List, [], ◌∷◌, ◌++◌, map, length, is_some, Some, None, Ok, Option, sym, refl, ap, ◌∙◌, subst, inl, inr, ⊎_elim, true≢false, append_assoc, append-nil, arith}
+use Rattle.std.proofs.Common.{◌≡◌, ℕ, ◌^◌, ◌<◌, ◌≤◌, Bool, true, false, ◌||◌, eqb, List, [], ◌∷◌, ◌++◌, length, is_some, Some, None, Ok, Option, sym, refl, ap, ◌∙◌, subst, arith}
 use Rattle.std.proofs.lemmas.Bool.Decides.{nat_tests}
-use Rattle.std.proofs.lemmas.Bool.{and_parts, and_from, or_from, or_parts, both_ways, eqb-true, leb-true, le-leb}
+use Rattle.std.proofs.lemmas.Bool.{and_parts, and_from, or_parts, both_ways, eqb-true}
 use Rattle.std.specs.List.{AllByRecursion}
 use Rattle.names.specs.Names.{property_name}
 use Rattle.names.specs.Paths.{root, parent, path_text}
-use Rattle.store.specs.Calls.{Meaning, holds, there, tested, admitted, add_node, set_property}
+use Rattle.store.specs.Calls.{holds, there, admitted, add_node, set_property}
 use Rattle.tree.specs.Entries.{Entry, inserted, tree_of, listed, same_place, among_places, listed_next, listed_from, well_listed}
 use Rattle.tree.specs.Maps.{find, upd, Rises, total}
 use Rattle.tree.specs.Places.{Bytes, Place, node_at, property_at, order}
-use Rattle.tree.specs.Trees.{Places, Tree, look, change, node_count, property_count, weigh, nodes, properties, weight, roomy, named_place, short_place, up_place, Sound}
-use Rattle.tree.proofs.Listed.{same_self, same-only, rises-inserted, Next, listed_next_lem, listed-sound}
+use Rattle.tree.specs.Trees.{Places, Tree, look, change, node_count, property_count, weigh, roomy, named_place, up_place, Sound}
+use Rattle.tree.proofs.Listed.{same_self, same-only, Next, listed_next_lem, listed-sound}
 use Rattle.tree.proofs.MapLaws.{upd-swap}
 use Rattle.tree.proofs.Maps.{find-same, find-other, rises-upd}
 use Rattle.tree.proofs.Places.{place-order}

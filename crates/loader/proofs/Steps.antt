@@ -1,15 +1,15 @@
 -- One token of a blob after the other, as writes to a store. Assumes nothing.
-use Rattle.std.proofs.Common.{◌≡◌, ℕ, zero, suc, ◌+◌, ◌-◌, ◌^◌, ◌<◌, ◌≤◌, Bool, true, false, ◌&&◌, eqb, leb, List, [], ◌∷◌, ◌++◌, length, Some, None, Ok, Err, Result, sym, refl, ap, ◌∙◌, subst, append_assoc, append-nil, arith}
+use Rattle.std.proofs.Common.{◌≡◌, ℕ, ◌^◌, ◌<◌, ◌≤◌, true, eqb, leb, List, [], ◌∷◌, ◌++◌, length, Some, Ok, Err, Result, sym, refl, ap, ◌∙◌, subst, append_assoc, append-nil, arith}
 use Rattle.std.proofs.lemmas.Bool.{and_parts, leb-true, true≢false}
 use Rattle.store.specs.declared.Refusal.{Refusal}
 use Rattle.names.specs.Names.{each, node_name}
-use Rattle.names.specs.Paths.{root, child, parent, path_text}
+use Rattle.names.specs.Paths.{root, child, parent}
 use Rattle.names.proofs.NameLaws.{node_names}
 use Rattle.names.proofs.PathLaws.{child_parent, root_ends}
-use Rattle.store.specs.Calls.{Meaning, holds, admitted, add_node, set_property, changed, settled}
-use Rattle.tree.specs.Entries.{Entry, listed, tree_of, same_place, listed_from, well_listed}
-use Rattle.tree.specs.Places.{Bytes, Place, node_at, property_at}
-use Rattle.tree.specs.Trees.{Tree, look, change, roomy, short_place}
+use Rattle.store.specs.Calls.{Meaning, holds, add_node, set_property, changed, settled}
+use Rattle.tree.specs.Entries.{Entry, listed, tree_of, well_listed}
+use Rattle.tree.specs.Places.{Bytes, node_at, property_at}
+use Rattle.tree.specs.Trees.{roomy, short_place}
 use Rattle.blob.specs.Tokens.{Tok, begin, property, end, nop, finish}
 use Rattle.reader.specs.Format.{Spelt, node_entry, property_entry}
 use Rattle.reader.specs.Handing.{named_item}

@@ -1,8 +1,8 @@
 -- Filling a store from what a blob lists: the root alone, then one write for each entry. Assumes nothing.
-use Rattle.std.specs.Prelude.{◌≡◌, ℕ, true, List, [], ◌∷◌, Some}
+use Rattle.std.specs.Prelude.{ℕ, List, [], ◌∷◌, Some}
 use Rattle.names.specs.Paths.{root}
 use Rattle.tree.specs.Entries.{Entry}
-use Rattle.tree.specs.Places.{Bytes, node_at}
+use Rattle.tree.specs.Places.{node_at}
 use Rattle.tree.specs.Trees.{Tree, change}
 
 -- the root alone

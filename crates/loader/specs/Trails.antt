@@ -1,5 +1,5 @@
 -- The path of the innermost open node, in a buffer. Assumes nothing.
-use Rattle.std.specs.Prelude.{◌≡◌, ℕ, ◌≤◌, List, length, take, slice_index_or}
+use Rattle.std.specs.Prelude.{◌≡◌, ◌≤◌, length, take, slice_index_or}
 use Rattle.tree.specs.Places.{Bytes}
 use Rattle.loader.specs.declared.trail.Trail.{Trail}
 

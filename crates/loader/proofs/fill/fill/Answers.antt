@@ -1,4 +1,4 @@
-use Rattle.std.proofs.Common.{◌≡◌, sym, refl, ap, ◌∙◌, subst}
+use Rattle.std.proofs.Common.{sym, ap, ◌∙◌, subst}
 use Rattle.store.specs.Calls.{holds}
 use Rattle.tree.specs.Entries.{tree_of}
 use Rattle.loader.specs.Filling.{BlobFeeds}

@@ -1,5 +1,4 @@
-use Rattle.std.proofs.Common.{◌≡◌, ◌+◌, List, [], ◌∷◌, sym, refl, ap, ◌∙◌, subst, arith}
-use Rattle.std.proofs.lemmas.Result.{err_from_is_err_and}
+use Rattle.std.proofs.Common.{[], ◌∷◌, sym, refl, subst}
 use Rattle.names.specs.Paths.{root}
 use Rattle.loader.specs.Filling.{Going}
 use Rattle.loader.specs.Loading.{grow}

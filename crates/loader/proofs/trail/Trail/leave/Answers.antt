@@ -1,6 +1,5 @@
-use Rattle.std.proofs.Common.{◌≡◌, ◌-◌, ◌<◌, ◌≤◌, length, take, drop, sym, refl, ap, ◌∙◌, subst, arith}
+use Rattle.std.proofs.Common.{◌≡◌, ◌-◌, ◌≤◌, length, take, drop, subst, arith}
 use Rattle.names.specs.Paths.{leaf}
-use Rattle.loader.specs.Trails.{path_on}
 use Rattle.loader.proofs.Buffers.{parent-root, parent-front}
 use Rattle.loader.proofs.trail.Trail.leave.Goals as goal
 

@@ -1,4 +1,4 @@
-use Rattle.std.proofs.Common.{◌≡◌, length, sym, refl, ap, ◌∙◌, arith}
+use Rattle.std.proofs.Common.{length, sym, ap, arith}
 use Rattle.loader.proofs.Buffers.{stem-one, stem-more}
 use Rattle.loader.proofs.trail.Trail.stem_len.Goals as goal
 
