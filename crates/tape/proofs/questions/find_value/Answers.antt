@@ -1,4 +1,4 @@
-use Rattle.std.proofs.Common.{◌≡◌, ◌<◌, true, false, length, Some, None, Ok, sym, refl, ap, ◌∙◌, arith}
+use Rattle.std.proofs.Common.{◌<◌, length, Some, Ok, sym, ap, ◌∙◌, arith}
 use Rattle.tape.specs.Tapes.{properties_at, property_of}
 use Rattle.tape.proofs.Looks.{value-at, look_missing, look-listed, property-none, property-some, found-on, found_none}
 use Rattle.tape.proofs.questions.find_value.Goals as goal

@@ -1,4 +1,4 @@
-use Rattle.std.proofs.Common.{◌≡◌, ◌<◌, true, false, length, is_some, None, Ok, sym, refl, ap, ◌∙◌, arith}
+use Rattle.std.proofs.Common.{◌<◌, length, is_some, None, Ok, sym, ap, ◌∙◌, arith}
 use Rattle.tape.proofs.Looks.{has-at, look_missing, look-node}
 use Rattle.tape.proofs.questions.has_node.Goals as goal
 

@@ -1,7 +1,7 @@
-use Rattle.std.proofs.Common.{◌≡◌, ℕ, ◌+◌, ◌-◌, ◌<◌, ◌≤◌, true, [], ◌∷◌, ◌++◌, length, take, drop, sym, refl, ap, ◌∙◌, subst, arith, rules}
+use Rattle.std.proofs.Common.{◌+◌, ◌-◌, ◌≤◌, [], ◌∷◌, ◌++◌, length, take, drop, sym, ap, ◌∙◌, subst, arith, rules}
 use Rattle.std.proofs.lemmas.List.{take_rest, length-append}
 use Rattle.tape.specs.Nodes.{Missing}
-use Rattle.tape.specs.Tapes.{Here, stem_at}
+use Rattle.tape.specs.Tapes.{stem_at}
 use Rattle.tape.proofs.Descent.{long_enough, first-slash, root-only, not_root, root-stem, lost, arrived, onward}
 use Rattle.tape.proofs.Sounds.{parts}
 use Rattle.tape.proofs.search.find_node.Goals as goal

@@ -1,4 +1,4 @@
-use Rattle.std.proofs.Common.{◌≡◌, ◌+◌, ◌-◌, ◌<◌, ◌≤◌, length, None, sym, refl, ap, ◌∙◌, subst, arith, rules}
+use Rattle.std.proofs.Common.{◌<◌, length, None, sym, refl, ◌∙◌, arith}
 use Rattle.tape.specs.Nodes.{meaning_of}
 use Rattle.tape.proofs.Looks.{look_missing}
 use Rattle.tape.proofs.Outcomes.{drop-absent, drop-root, drop-busy, drop-done, drop-valid, drop-after, drop-bare}

@@ -1,6 +1,5 @@
-use Rattle.std.proofs.Common.{◌≡◌, ℕ, ◌+◌, ◌-◌, ◌<◌, ◌≤◌, ◌∷◌, length, set, None, sym, refl, ap, ◌∙◌, subst, arith, rules}
-use Rattle.tape.specs.Nodes.{meaning_of, valid}
-use Rattle.tape.specs.Tapes.{properties_at, property_of, with_properties, less_property, property_fits, property_weight}
+use Rattle.std.proofs.Common.{◌<◌, length, None, sym, refl, ◌∙◌, arith}
+use Rattle.tape.specs.Nodes.{meaning_of}
 use Rattle.tape.proofs.Looks.{look_missing, found-on, found_none}
 use Rattle.tape.proofs.Outcomes.{unset-no-node, unset-none, unset-done, unset-valid, unset-after}
 use Rattle.tape.proofs.writes.drop_property.Goals as goal

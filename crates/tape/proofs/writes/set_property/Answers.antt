@@ -1,6 +1,6 @@
-use Rattle.std.proofs.Common.{◌≡◌, ℕ, ◌+◌, ◌-◌, ◌<◌, ◌≤◌, ◌∷◌, length, set, None, sym, refl, ap, ◌∙◌, subst, arith, rules}
+use Rattle.std.proofs.Common.{◌≡◌, ◌-◌, ◌<◌, ◌≤◌, ◌∷◌, length, set, None, sym, refl, ap, ◌∙◌, subst, arith, rules}
 use Rattle.tape.specs.Nodes.{meaning_of, valid}
-use Rattle.tape.specs.Tapes.{properties_at, property_of, with_properties, less_property, property_fits, property_weight}
+use Rattle.tape.specs.Tapes.{properties_at, property_of, with_properties, property_fits, property_weight}
 use Rattle.tape.proofs.Looks.{look_missing, found-on, found_none}
 use Rattle.tape.proofs.Outcomes.{set-absent, name-short, new_limit, new-done, new-valid, new-after, old-short, old-weight, old-count, over_limit, over_done, over-valid, over-after, unset-valid, less-long, again-valid, again-after}
 use Rattle.tape.proofs.Sums.{within_limits}
