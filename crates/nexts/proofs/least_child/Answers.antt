@@ -43,8 +43,8 @@ loop-at-preserved g c =
     let b = c.loop-at.invariant.1 in
     let turn : Turn n o o' here rest =
     elim c.if-head-top-eq1.branch [
-      | then-head-top-eq1+then-is-better w ↦ turn_taken n o o' here rest (nth ns k).name w.name-name.result.now w.name-name.ensures (ap shown_name w.best-is) w.if-is-better.ensures (kids-child ns m k l (omega (arith, c.head-head.ensures.depth, c.if-head-top.false, w.if-head-top-eq1.true)))
-      | then-head-top-eq1+else-is-better w ↦ turn_kept n o o' here rest (nth ns k).name w.name-name.result.now w.name-name.ensures (ap shown_name w.best-is) w.if-is-better.ensures (kids-child ns m k l (omega (arith, c.head-head.ensures.depth, c.if-head-top.false, w.if-head-top-eq1.true))) b
+      | then-head-top-eq1+then-is-better w ↦ turn_taken n o o' here rest (nth ns k).name w.name-name.result.now w.name-name.ensures (ap shown_name w.best-is) w.if-is_better.ensures (kids-child ns m k l (omega (arith, c.head-head.ensures.depth, c.if-head-top.false, w.if-head-top-eq1.true)))
+      | then-head-top-eq1+else-is-better w ↦ turn_kept n o o' here rest (nth ns k).name w.name-name.result.now w.name-name.ensures (ap shown_name w.best-is) w.if-is_better.ensures (kids-child ns m k l (omega (arith, c.head-head.ensures.depth, c.if-head-top.false, w.if-head-top-eq1.true))) b
       | else-head-top-eq1 w ↦ turn_past n o o' here rest (ap shown_name w.best-is) (kids-past ns m k l (omega (arith, c.head-head.ensures.depth, c.if-head-top.false)) (λ z. w.if-head-top-eq1.false (omega (arith, z, c.head-head.ensures.depth)))) b
     ] in
     let d = turned n o o' here rest turn in
