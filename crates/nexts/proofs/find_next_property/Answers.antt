@@ -1,4 +1,4 @@
-use Rattle.std.proofs.Common.{◌≡◌, ◌<◌, true, false, length, None, sym, refl, ap, ◌∙◌, arith}
+use Rattle.std.proofs.Common.{◌<◌, length, None, sym, ◌∙◌, arith}
 use Rattle.names.specs.Names.{property_name}
 use Rattle.store.specs.Calls.{property_on}
 use Rattle.nexts.specs.Kids.{shown_name}

@@ -1,10 +1,10 @@
-use Rattle.std.proofs.Common.{◌≡◌, ℕ, ◌+◌, ◌-◌, ◌<◌, ◌≤◌, true, false, [], ◌++◌, length, get_or, drop, sym, refl, ap, ◌∙◌, subst, arith}
+use Rattle.std.proofs.Common.{◌≡◌, ◌+◌, ◌<◌, ◌≤◌, [], ◌++◌, length, get_or, drop, sym, refl, ap, ◌∙◌, subst, arith}
 use Rattle.store.specs.Calls.{least_after}
 use Rattle.tape.specs.Tapes.{properties_at}
 use Rattle.nexts.specs.Kids.{keys, shown_name}
-use Rattle.nexts.proofs.Kin.{front, Behind, least-front, keys-end, keys-more, Turn, turn_taken, turn_kept, turned}
+use Rattle.nexts.proofs.Kin.{front, least-front, keys-end, keys-more, Turn, turn_taken, turn_kept, turned}
 use Rattle.nexts.proofs.least_property.Goals as goal
-use Rattle.nexts.proofs.least_property.Goals.{then-is-better, else-is-better}
+use Rattle.nexts.proofs.least_property.Goals.{then-is_better, else-is_better}
 
 pub loop-m-init : goal.loop-m-init
 loop-m-init g c =
@@ -58,8 +58,8 @@ loop-m-preserved g c =
     let rest = keys (drop (k + 1) xs) in
     let turn : Turn n o o' here rest =
     elim c.if-is_better.branch [
-      | then-is-better w ↦ turn_taken n o o' here rest x y yx (ap shown_name w.best-is) w.if-is_better.ensures (keys-more xs k l)
-      | else-is-better w ↦ turn_kept n o o' here rest x y yx (ap shown_name w.best-is) w.if-is_better.ensures (keys-more xs k l) c.loop-m.invariant.2
+      | then-is_better w ↦ turn_taken n o o' here rest x y yx (ap shown_name w.best-is) w.if-is_better.ensures (keys-more xs k l)
+      | else-is_better w ↦ turn_kept n o o' here rest x y yx (ap shown_name w.best-is) w.if-is_better.ensures (keys-more xs k l) c.loop-m.invariant.2
     ] in
     let d = turned n o o' here rest turn in
     (nn ∙ c.loop-m.invariant.0, u ∙ (λ z. g.T.Tape.mark t (sym nn z) (sym j z)), d.0, ap (λ i. least_after n (front o' ++ keys (drop i xs))) j ∙ d.1 ∙ c.loop-m.invariant.3)
