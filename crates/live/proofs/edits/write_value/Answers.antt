@@ -12,8 +12,8 @@ use Rattle.live.proofs.Fitted.{room-parts, room-from}
 use Rattle.live.proofs.Moved.{renew, rows-over, cells_over, bytes-over, bytes_were, weight-over, put_over, length_over}
 use Rattle.live.proofs.edits.write_value.Goals as goal
 
-pub offset-bounds-m-k : goal.offset-bounds-m-k
-offset-bounds-m-k c =
+pub offset_bounds-m-k : goal.offset_bounds-m-k
+offset_bounds-m-k c =
     let m = c.args.m.now in
     let w = c.requires.whole in
     let ns = held m in
@@ -54,8 +54,8 @@ bounds-m-k c =
     let same = c.requires.length in
     kb.0
 
-pub overflow-add-start : goal.overflow-add-start
-overflow-add-start c =
+pub overflow_add-start : goal.overflow_add-start
+overflow_add-start c =
     let m = c.args.m.now in
     let w = c.requires.whole in
     let ns = held m in
@@ -75,8 +75,8 @@ overflow-add-start c =
     let same = c.requires.length in
     omega (arith, cn, kat, os, size_is m w, (bounds m w).2)
 
-pub overflow-add-end : goal.overflow-add-end
-overflow-add-end c =
+pub overflow_add-end : goal.overflow_add-end
+overflow_add-end c =
     let m = c.args.m.now in
     let w = c.requires.whole in
     let ns = held m in
@@ -96,8 +96,8 @@ overflow-add-end c =
     let same = c.requires.length in
     omega (arith, cn, kat, os, same, size_is m w, (bounds m w).2)
 
-pub slice-bounds-copy-from-slice-end : goal.slice-bounds-copy-from-slice-end
-slice-bounds-copy-from-slice-end c =
+pub slice_bounds-copy_from_slice-end : goal.slice_bounds-copy_from_slice-end
+slice_bounds-copy_from_slice-end c =
     let m = c.args.m.now in
     let w = c.requires.whole in
     let ns = held m in
@@ -146,6 +146,6 @@ returns c =
     let start = k.at + (get_or m.properties.now k.property f).name in
     let a : start ≡ length X = omega (arith, kat, cn, length-append (bytes_of (take i ns)) ((nth ns i).name ++ (property_bytes (take q ps) ++ x.0)), length-append (nth ns i).name (property_bytes (take q ps) ++ x.0), length-append (property_bytes (take q ps)) x.0) in
     let n : start + length u - start ≡ length u = omega arith in
-    let bytes = put_over m.pool.now X x.1 Z u c.copy-from-slice.new.self m.size start (start + length u - start) (sym w.bytes ∙ bytes_were ns i h q l u same) w.size-in a same n c.copy-from-slice.ensures.after in
-    let kp : length (put_mid start (start + length u - start) m.pool.now c.copy-from-slice.new.self) ≡ length m.pool.now = length_over m.pool.now c.copy-from-slice.new.self start (start + length u - start) (omega (arith, n, cn, kat, os, same, size_is m w, w.size-in)) (ap length c.copy-from-slice.ensures.after ∙ sym n) in
+    let bytes = put_over m.pool.now X x.1 Z u c.copy_from_slice.new.self m.size start (start + length u - start) (sym w.bytes ∙ bytes_were ns i h q l u same) w.size-in a same n c.copy_from_slice.ensures.after in
+    let kp : length (put_mid start (start + length u - start) m.pool.now c.copy_from_slice.new.self) ≡ length m.pool.now = length_over m.pool.now c.copy_from_slice.new.self start (start + length u - start) (omega (arith, n, cn, kat, os, same, size_is m w, w.size-in)) (ap length c.copy_from_slice.ensures.after ∙ sym n) in
     renew _ ms (sym w.rows ∙ sym (rows-over ns i h q l u same)) (sym w.cells ∙ sym (cells_over ns i h q l u same)) (bytes ∙ sym (bytes-over ns i h q l u same)) m.boot refl w.nodes_in_lem w.properties_in_lem (subst (λ z. m.size ≤ z) (sym kp) w.size-in) (w.weight ∙ sym (weight-over ns i h q l u same)) (room-from m.counts.nodes (length m.nodes.now) _ _ room.0 room.1 (subst (λ z. 24576 ≤ z) (sym kp) room.2)) c.requires.sound

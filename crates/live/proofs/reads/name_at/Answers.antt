@@ -6,8 +6,8 @@ use Rattle.live.specs.Records.{held, cells_of, bytes_of, property_bytes}
 use Rattle.live.proofs.Kept.{spot_row, spot_in_lem, spot-at, spot-property, spot-low, spot_few, spot-name, mark-property, mark-at, mark_cell, mark-in, mark-low, mark-name, mark-value, bytes_next, cells-next, on-next, sliced, first-is, next-is, behind-is}
 use Rattle.live.proofs.reads.name_at.Goals as goal
 
-pub offset-bounds-m-s : goal.offset-bounds-m-s
-offset-bounds-m-s c =
+pub offset_bounds-m-s : goal.offset_bounds-m-s
+offset_bounds-m-s c =
     let m = c.args.m.now in
     let s = c.args.s in
     let b = spot_in_lem m c.requires.whole s c.requires.here in
@@ -28,8 +28,8 @@ bounds-m-s c =
     let few = spot_few m c.requires.whole s c.requires.here in
     b.0
 
-pub overflow-add-end : goal.overflow-add-end
-overflow-add-end c =
+pub overflow_add-end : goal.overflow_add-end
+overflow_add-end c =
     let m = c.args.m.now in
     let s = c.args.s in
     let b = spot_in_lem m c.requires.whole s c.requires.here in
@@ -42,8 +42,8 @@ overflow-add-end c =
     let rb = ap (λ x. x.bytes) r in
     search rules
 
-pub slice-bounds-result-end : goal.slice-bounds-result-end
-slice-bounds-result-end c =
+pub slice_bounds-result-end : goal.slice_bounds-result-end
+slice_bounds-result-end c =
     let m = c.args.m.now in
     let s = c.args.s in
     let b = spot_in_lem m c.requires.whole s c.requires.here in
