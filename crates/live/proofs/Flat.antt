@@ -1,5 +1,5 @@
 -- Records are known by the numbers in them. Assumes nothing.
-use Rattle.std.proofs.Common.{◌≡◌, ℕ, ◌≤◌, true, List, [], ◌∷◌, length, sym, refl, ap, ◌∙◌, arith}
+use Rattle.std.proofs.Common.{◌≡◌, ℕ, ◌≤◌, true, List, [], ◌∷◌, length, refl, ap, arith}
 use Rattle.live.specs.declared.memory.NodeRecord.{NodeRecord}
 use Rattle.live.specs.declared.memory.PropertyRecord.{PropertyRecord}
 use Rattle.std.proofs.lemmas.List.{take-set}

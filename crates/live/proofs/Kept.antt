@@ -1,17 +1,17 @@
 -- What the memory of the live store keeps. Assumes nothing.
-use Rattle.std.proofs.Common.{◌≡◌, ℕ, suc, ◌+◌, ◌-◌, ◌<◌, ◌≤◌, true, List, [], ◌∷◌, ◌++◌, map, length, get_or, take, drop, set, sym, refl, ap, ◌∙◌, subst, append_assoc, append-nil, arith}
-use Rattle.std.proofs.lemmas.List.{take_at, drop_at, take-take, take_all, take_more, drop_more, drop-drop, drop-take, length-append, length-map, length-take-le, length-drop, map-append, take-map, drop-map, get_or-map, get_or-take, get_or_at, get_or-drop, take-append-drop, get_or-append-add, get_or_append_left, get_or_default}
+use Rattle.std.proofs.Common.{◌≡◌, ℕ, ◌+◌, ◌-◌, ◌<◌, ◌≤◌, List, [], ◌∷◌, ◌++◌, map, length, get_or, take, drop, sym, refl, ap, ◌∙◌, append_assoc, arith}
+use Rattle.std.proofs.lemmas.List.{take_at, drop_at, take-take, take_more, drop_more, drop-take, length-append, length-map, length-take-le, get_or-map, get_or-take, take-append-drop, get_or-append-add, get_or_append_left}
 use Rattle.tree.specs.Places.{Bytes}
 use Rattle.tape.specs.Nodes.{Node, Property}
 use Rattle.tape.specs.Tapes.{nowhere, nth, properties_at, property_of, Counted, properties_of, weight_of}
 use Rattle.tape.specs.declared.Mark.{Mark}
 use Rattle.tape.specs.declared.Spot.{Spot}
-use Rattle.tape.specs.Tapes.{Here, On, node_weight, property_weight, properties_weight}
+use Rattle.tape.specs.Tapes.{Here, On, properties_weight}
 use Rattle.tape.proofs.Sums.{within_limits}
 use Rattle.live.specs.declared.memory.Memory.{Memory}
 use Rattle.live.specs.declared.memory.NodeRecord.{NodeRecord}
 use Rattle.live.specs.declared.memory.PropertyRecord.{PropertyRecord}
-use Rattle.live.specs.Records.{cell_of, property_bytes, row_of, rows_of, cells_of, bytes_of, used_rows, used_cells, used_bytes, held, Whole, spot_in, mark_in}
+use Rattle.live.specs.Records.{cell_of, property_bytes, row_of, cells_of, bytes_of, held, Whole, spot_in, mark_in}
 use Rattle.live.proofs.Coded.{bytes_join, cells_join, property-bytes_join}
 
 -- ---- a list of nodes around one of them

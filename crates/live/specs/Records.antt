@@ -1,5 +1,5 @@
 -- Nodes in records and a byte pool: each record's bytes are the next ones of the pool, so that records hold lengths alone. Assumes nothing.
-use Rattle.std.specs.Prelude.{◌≡◌, ℕ, ◌+◌, ◌≤◌, Bool, true, false, ◌&&◌, ◌||◌, List, [], ◌∷◌, ◌++◌, map, length, take, drop, ◌==◌, nat_le}
+use Rattle.std.specs.Prelude.{◌≡◌, ℕ, ◌+◌, ◌≤◌, Bool, true, ◌&&◌, ◌||◌, List, [], ◌∷◌, ◌++◌, map, length, take, drop, ◌==◌, nat_le}
 use Rattle.tree.specs.Places.{Bytes}
 use Rattle.tape.specs.declared.Mark.{Mark}
 use Rattle.tape.specs.declared.Spot.{Spot}

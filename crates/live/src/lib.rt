@@ -1,5 +1,6 @@
 // The live store: a tree in node records, property records and a byte pool.
 #![tactic(auto)]
+
 pub mod edits;
 pub mod memory;
 pub mod reads;

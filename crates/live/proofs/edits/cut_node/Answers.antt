@@ -1,12 +1,10 @@
-use Rattle.std.proofs.Common.{◌≡◌, ℕ, ◌+◌, ◌-◌, ◌*◌, ◌<◌, ◌≤◌, true, List, [], ◌∷◌, ◌++◌, length, get_or, take, drop, set, sym, refl, ap, ◌∙◌, subst, arith, rules}
-use Rattle.std.proofs.lemmas.List.{nil_from_length, length-set, length-take-le}
-use Rattle.tape.specs.Nodes.{Node, valid}
-use Rattle.tape.specs.Tapes.{nth, properties_at, property_of, bare_node, with_node, less_node, with_properties, less_property, node_weight, property_weight, weight_of}
+use Rattle.std.proofs.Common.{◌≡◌, ◌-◌, ◌<◌, ◌≤◌, length, get_or, sym, refl, ap, ◌∙◌, arith, rules}
+use Rattle.std.proofs.lemmas.List.{nil_from_length}
+use Rattle.tape.specs.Tapes.{properties_at, less_node, node_weight, weight_of}
 use Rattle.live.specs.declared.memory.NodeRecord.{NodeRecord}
-use Rattle.live.specs.declared.memory.PropertyRecord.{PropertyRecord}
-use Rattle.live.specs.Records.{held, row_of, cell_of, cells_of, bytes_of, property_bytes, rows_of}
-use Rattle.live.specs.Splices.{spliced_in, spliced_out}
-use Rattle.live.proofs.Kept.{count-is, size_is, cells_are, bounds, spot_row, spot_in_lem, spot-at, spot-property, spot-low, spot_few, at-short, all-cells, mark_cell, mark-in, mark-at, mark-property, mark-low, mark-value, on-short, cells-short}
+use Rattle.live.specs.Records.{held}
+use Rattle.live.specs.Splices.{spliced_out}
+use Rattle.live.proofs.Kept.{count-is, size_is, spot_row, spot_in_lem, spot-at, spot-low, at-short}
 use Rattle.live.proofs.Fitted.{room-parts, room-from}
 use Rattle.live.proofs.Moved.{renew, rows-less, cells-less, bytes-less, weight-less}
 use Rattle.live.proofs.edits.cut_node.Goals as goal
@@ -73,7 +71,7 @@ remove_slice-requires-2 c =
     let b = spot_in_lem m w s c.requires.here in
     let at = spot-at m w s c.requires.here in
     let low = spot-low m w s c.requires.here in
-    record { order = omega (arith, rn, at, at-short ns i h, size_is m w); room = w.size-in }
+    record { order = omega (arith, rn, at, at-short ns i h, size_is m w); room = w.size_in }
 
 pub node_weight-requires : goal.node_weight-requires
 node_weight-requires c =
@@ -156,7 +154,7 @@ returns c =
     let xs = c.remove_slice.new.xs in
     let ys = c.remove_slice-2.new.xs in
     let in_rows : m.counts.nodes - 1 ≤ length xs = omega (arith, w.nodes_in_lem, kn) in
-    let in-pool : m.size - (get_or m.nodes.now i e).name ≤ length ys = omega (arith, w.size-in, kp) in
+    let in-pool : m.size - (get_or m.nodes.now i e).name ≤ length ys = omega (arith, w.size_in, kp) in
     let l1 : 256 ≤ length xs = omega (arith, room.0, kn) in
     let l3 : 24576 ≤ length ys = omega (arith, room.2, kp) in
     let wt : m.counts.weight - c.node_weight.result ≡ weight_of ms = omega (arith, x, wl, w.weight) in

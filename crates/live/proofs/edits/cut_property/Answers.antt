@@ -1,12 +1,11 @@
-use Rattle.std.proofs.Common.{◌≡◌, ℕ, ◌+◌, ◌-◌, ◌*◌, ◌<◌, ◌≤◌, true, List, [], ◌∷◌, ◌++◌, length, get_or, take, drop, set, sym, refl, ap, ◌∙◌, subst, arith, rules}
-use Rattle.std.proofs.lemmas.List.{nil_from_length, length-set, length-take-le}
-use Rattle.tape.specs.Nodes.{Node, valid}
-use Rattle.tape.specs.Tapes.{nth, properties_at, property_of, bare_node, with_node, less_node, with_properties, less_property, node_weight, property_weight, weight_of}
+use Rattle.std.proofs.Common.{◌≡◌, ◌+◌, ◌-◌, ◌<◌, ◌≤◌, length, get_or, take, set, sym, refl, ap, ◌∙◌, subst, arith, rules}
+use Rattle.std.proofs.lemmas.List.{length-set}
+use Rattle.tape.specs.Tapes.{nth, properties_at, property_of, with_properties, less_property, property_weight, weight_of}
 use Rattle.live.specs.declared.memory.NodeRecord.{NodeRecord}
 use Rattle.live.specs.declared.memory.PropertyRecord.{PropertyRecord}
-use Rattle.live.specs.Records.{held, row_of, cell_of, cells_of, bytes_of, property_bytes, rows_of}
-use Rattle.live.specs.Splices.{spliced_in, spliced_out}
-use Rattle.live.proofs.Kept.{count-is, size_is, cells_are, bounds, spot_row, spot_in_lem, spot-at, spot-property, spot-low, spot_few, at-short, all-cells, mark_cell, mark-in, mark-at, mark-property, mark-low, mark-value, on-short, cells-short, front_long, around_it, part-is}
+use Rattle.live.specs.Records.{held, cell_of, cells_of, bytes_of, property_bytes, rows_of}
+use Rattle.live.specs.Splices.{spliced_out}
+use Rattle.live.proofs.Kept.{count-is, size_is, cells_are, bounds, spot_row, spot_in_lem, spot-at, spot-property, spot-low, spot_few, mark_cell, mark-in, mark-at, mark-property, on-short, cells-short}
 use Rattle.live.proofs.Fitted.{room-parts, room-from}
 use Rattle.live.proofs.Moved.{renew, take-set-in, rows_other, row_cut, cells_cut, bytes_cut, cut-sizes, weight-cut}
 use Rattle.live.proofs.edits.cut_property.Goals as goal
@@ -226,7 +225,7 @@ remove_slice-requires-2 c =
     let os = on-short ns i h q l in
     let sz = cut-sizes ns i h q l in
     let wc = weight-cut ns i h q l in
-    record { order = omega (arith, kat, cn, cv, os, size_is m w); room = w.size-in }
+    record { order = omega (arith, kat, cn, cv, os, size_is m w); room = w.size_in }
 
 pub overflow_sub-m : goal.overflow_sub-m
 overflow_sub-m c =
@@ -527,7 +526,7 @@ returns c =
     let lz = length-set m.nodes.now i (rec (get_or m.nodes.now i e)) in
     let a1 : m.counts.nodes ≤ length zs = omega (arith, w.nodes_in_lem, lz) in
     let a2 : m.counts.properties - 1 ≤ length xs = omega (arith, w.properties_in_lem, kc) in
-    let a3 : m.size - n ≤ length ys = omega (arith, w.size-in, kp) in
+    let a3 : m.size - n ≤ length ys = omega (arith, w.size_in, kp) in
     let l1 : 256 ≤ length zs = omega (arith, room.0, lz) in
     let l2 : 1024 ≤ length xs = omega (arith, room.1, kc) in
     let l3 : 24576 ≤ length ys = omega (arith, room.2, kp) in

@@ -1,14 +1,12 @@
-use Rattle.std.proofs.Common.{◌≡◌, ℕ, ◌+◌, ◌-◌, ◌*◌, ◌<◌, ◌≤◌, true, List, [], ◌∷◌, ◌++◌, length, get_or, take, drop, set, sym, refl, ap, ◌∙◌, subst, arith, rules}
-use Rattle.std.proofs.lemmas.List.{nil_from_length, length-set, length-take-le}
-use Rattle.tape.specs.Nodes.{Node, valid}
-use Rattle.tape.specs.Tapes.{nth, properties_at, property_of, bare_node, with_node, less_node, with_properties, less_property, node_weight, property_weight, weight_of}
+use Rattle.std.proofs.Common.{◌≡◌, ◌+◌, ◌<◌, ◌≤◌, [], ◌∷◌, length, get_or, take, set, sym, refl, ap, ◌∙◌, subst, arith, rules}
+use Rattle.std.proofs.lemmas.List.{length-set}
+use Rattle.tape.specs.Tapes.{nth, properties_at, with_properties, property_weight}
 use Rattle.live.specs.declared.memory.NodeRecord.{NodeRecord}
-use Rattle.live.specs.declared.memory.PropertyRecord.{PropertyRecord}
-use Rattle.live.specs.Records.{held, row_of, cell_of, cells_of, bytes_of, property_bytes, rows_of}
-use Rattle.live.specs.Splices.{spliced_in, spliced_out}
-use Rattle.live.proofs.Kept.{count-is, size_is, cells_are, bounds, spot_row, spot_in_lem, spot-at, spot-property, spot-low, spot_few, at-short, all-cells, mark_cell, mark-in, mark-at, mark-property, mark-low, mark-value, on-short, cells-short, front_long, around_it}
+use Rattle.live.specs.Records.{held, cell_of, bytes_of, rows_of}
+use Rattle.live.specs.Splices.{spliced_in}
+use Rattle.live.proofs.Kept.{count-is, size_is, cells_are, spot_row, spot_in_lem, spot-at, spot-property, spot-low, spot_few, at-short, all-cells}
 use Rattle.live.proofs.Fitted.{room-parts, room-from, property-room}
-use Rattle.live.proofs.Moved.{renew, take-set-in, dressed, rows_other, row_put, cells-put, bytes-put, weight-put}
+use Rattle.live.proofs.Moved.{renew, take-set-in, rows_other, row_put, cells-put, bytes-put, weight-put}
 use Rattle.live.proofs.edits.put_property.Goals as goal
 
 pub offset_bounds-m-s : goal.offset_bounds-m-s

@@ -1,9 +1,6 @@
-use Rattle.std.proofs.Common.{◌≡◌, ℕ, ◌+◌, ◌-◌, ◌*◌, ◌<◌, ◌≤◌, length, take, drop, sym, refl, ap, ◌∙◌, subst, arith, rules}
-use Rattle.tape.specs.Tapes.{nth, properties_at, property_of}
-use Rattle.live.specs.declared.memory.NodeRecord.{NodeRecord}
+use Rattle.std.proofs.Common.{ap, ◌∙◌, rules}
 use Rattle.live.specs.declared.memory.PropertyRecord.{PropertyRecord}
-use Rattle.live.specs.Records.{held, cells_of, bytes_of, property_bytes}
-use Rattle.live.proofs.Kept.{spot_row, spot_in_lem, spot-at, spot-property, spot-low, spot_few, spot-name, mark-property, mark-at, mark_cell, mark-in, mark-low, mark-name, mark-value, bytes_next, cells-next, on-next, sliced, sliced-past, first-is, next-is, behind-is}
+use Rattle.live.proofs.Kept.{mark_cell, mark-in, mark-low, mark-value, sliced-past}
 use Rattle.live.proofs.reads.value_at.Goals as goal
 
 pub offset_bounds-m-k : goal.offset_bounds-m-k

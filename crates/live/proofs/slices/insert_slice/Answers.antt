@@ -1,4 +1,4 @@
-use Rattle.std.proofs.Common.{◌≡◌, sym, refl, ap, ◌∙◌, arith}
+use Rattle.std.proofs.Common.{refl, arith}
 use Rattle.live.proofs.Gap.{filled, gap_front}
 use Rattle.live.proofs.slices.insert_slice.Goals as goal
 

@@ -1,4 +1,4 @@
-use Rattle.std.proofs.Common.{◌≡◌, sym, refl, ap, ◌∙◌, arith}
+use Rattle.std.proofs.Common.{refl}
 use Rattle.live.proofs.Gap.{closed}
 use Rattle.live.proofs.slices.remove_slice.Goals as goal
 

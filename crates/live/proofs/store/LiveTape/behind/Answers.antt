@@ -1,5 +1,4 @@
-use Rattle.std.proofs.Common.{◌≡◌, sym, refl, ap, ◌∙◌}
-use Rattle.live.proofs.Flat.{whole_from, spot_stays}
+use Rattle.live.proofs.Flat.{whole_from}
 use Rattle.live.proofs.store.LiveTape.behind.Goals as goal
 
 pub mark_behind-requires : goal.mark_behind-requires

@@ -1,5 +1,4 @@
-use Rattle.std.proofs.Common.{◌≡◌, sym, refl, ap, ◌∙◌}
-use Rattle.live.proofs.Flat.{whole_from, spot_stays}
+use Rattle.live.proofs.Flat.{whole_from}
 use Rattle.live.proofs.store.LiveTape.head.Goals as goal
 
 pub head_at-requires : goal.head_at-requires

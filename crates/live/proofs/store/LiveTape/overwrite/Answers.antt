@@ -1,5 +1,4 @@
-use Rattle.std.proofs.Common.{◌≡◌, sym, refl, ap, ◌∙◌}
-use Rattle.live.proofs.Flat.{whole_from, spot_stays}
+use Rattle.live.proofs.Flat.{whole_from}
 use Rattle.live.proofs.store.LiveTape.overwrite.Goals as goal
 
 pub write_value-requires : goal.write_value-requires

@@ -1,5 +1,4 @@
-use Rattle.std.proofs.Common.{◌≡◌, sym, refl, ap, ◌∙◌}
-use Rattle.live.proofs.Flat.{whole_from, spot_stays}
+use Rattle.live.proofs.Flat.{whole_from}
 use Rattle.live.proofs.store.LiveTape.property_name.Goals as goal
 
 pub property_name_at-requires : goal.property_name_at-requires

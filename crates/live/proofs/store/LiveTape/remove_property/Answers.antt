@@ -1,4 +1,4 @@
-use Rattle.std.proofs.Common.{◌≡◌, sym, refl, ap, ◌∙◌}
+use Rattle.std.proofs.Common.{ap, ◌∙◌}
 use Rattle.live.proofs.Flat.{whole_from, spot_stays}
 use Rattle.live.specs.Records.{held, spot_in}
 use Rattle.live.proofs.store.LiveTape.remove_property.Goals as goal

@@ -1,5 +1,4 @@
-use Rattle.std.proofs.Common.{◌≡◌, sym, refl, ap, ◌∙◌}
-use Rattle.live.proofs.Flat.{whole_from, spot_stays}
+use Rattle.std.proofs.Common.{refl}
 use Rattle.live.specs.Records.{cells_of, bytes_of}
 use Rattle.live.proofs.store.LiveTape.start.Goals as goal
 
