@@ -22,8 +22,8 @@ module _ (m : Memory) (ms : List Node) (rows : used_rows m ≡ rows_of ms) (cell
     is = held-is;
     boot = eb;
     whole = record {
-      nodes_in_lem = hn;
-      properties_in_lem = hp;
+      nodes_in = hn;
+      properties_in = hp;
       size_in = hs;
       rows = ap rows_of held-is ∙ sym rows;
       cells = ap cells_of held-is ∙ sym cells;

@@ -55,7 +55,7 @@ remove_slice-requires c =
     let b = spot_in_lem m w s c.requires.here in
     let at = spot-at m w s c.requires.here in
     let low = spot-low m w s c.requires.here in
-    record { order = omega (arith, h, count-is m w); room = w.nodes_in_lem }
+    record { order = omega (arith, h, count-is m w); room = w.nodes_in }
 
 pub remove_slice-requires-2 : goal.remove_slice-requires-2
 remove_slice-requires-2 c =
@@ -153,7 +153,7 @@ returns c =
     let back = sym w.bytes in
     let xs = c.remove_slice.new.xs in
     let ys = c.remove_slice-2.new.xs in
-    let in_rows : m.counts.nodes - 1 ≤ length xs = omega (arith, w.nodes_in_lem, kn) in
+    let in_rows : m.counts.nodes - 1 ≤ length xs = omega (arith, w.nodes_in, kn) in
     let in-pool : m.size - (get_or m.nodes.now i e).name ≤ length ys = omega (arith, w.size_in, kp) in
     let l1 : 256 ≤ length xs = omega (arith, room.0, kn) in
     let l3 : 24576 ≤ length ys = omega (arith, room.2, kp) in
@@ -162,5 +162,5 @@ returns c =
     (c.remove_slice.ensures ∙ ap (λ t. spliced_out t i 1) (sym w.rows) ∙ rows-less ns i h)
     (sym w.cells ∙ sym (cells-less ns i h bare))
     (c.remove_slice-2.ensures ∙ (λ j. spliced_out (back j) (at j) (rn j)) ∙ bytes-less ns i h bare)
-    m.boot refl in_rows w.properties_in_lem in-pool wt
+    m.boot refl in_rows w.properties_in in-pool wt
     (room-from (m.counts.nodes - 1) (length xs) _ (length ys) l1 room.1 l3) c.requires.sound

@@ -190,7 +190,7 @@ remove_slice-requires c =
     let os = on-short ns i h q l in
     let sz = cut-sizes ns i h q l in
     let wc = weight-cut ns i h q l in
-    record { order = omega (arith, kpr, cells-short ns i h q l, cells_are m w); room = w.properties_in_lem }
+    record { order = omega (arith, kpr, cells-short ns i h q l, cells_are m w); room = w.properties_in }
 
 pub remove_slice-requires-2 : goal.remove_slice-requires-2
 remove_slice-requires-2 c =
@@ -524,8 +524,8 @@ returns c =
     let xs = c.remove_slice.new.xs in
     let ys = c.remove_slice-2.new.xs in
     let lz = length-set m.nodes.now i (rec (get_or m.nodes.now i e)) in
-    let a1 : m.counts.nodes ≤ length zs = omega (arith, w.nodes_in_lem, lz) in
-    let a2 : m.counts.properties - 1 ≤ length xs = omega (arith, w.properties_in_lem, kc) in
+    let a1 : m.counts.nodes ≤ length zs = omega (arith, w.nodes_in, lz) in
+    let a2 : m.counts.properties - 1 ≤ length xs = omega (arith, w.properties_in, kc) in
     let a3 : m.size - n ≤ length ys = omega (arith, w.size_in, kp) in
     let l1 : 256 ≤ length zs = omega (arith, room.0, lz) in
     let l2 : 1024 ≤ length xs = omega (arith, room.1, kc) in
@@ -536,7 +536,7 @@ returns c =
     let wt : m.counts.weight - c.property_weight.result ≡ weight_of ms = omega (arith, c.property_weight.ensures ∙ (λ j. property_weight (cn j) (cv j)), wc, w.weight) in
     let less : length (property_bytes ps) - n ≡ length (property_bytes ps) - (length (property_of ns i q).0 + length (property_of ns i q).1) = ap (λ x. length (property_bytes ps) - x) en in
     renew _ ms
-    (take-set-in m.counts.nodes i m.nodes.now (rec (get_or m.nodes.now i e)) in_rows w.nodes_in_lem ∙ (λ j. set (ob j) i (rec (row j))) ∙ ap (set (rows_of ns) i) (sym (row_cut ns i h q l (length ps - 1) (length (property_bytes ps) - n) refl less)) ∙ sym (rows_other ns i h (less_property ps q)))
+    (take-set-in m.counts.nodes i m.nodes.now (rec (get_or m.nodes.now i e)) in_rows w.nodes_in ∙ (λ j. set (ob j) i (rec (row j))) ∙ ap (set (rows_of ns) i) (sym (row_cut ns i h q l (length ps - 1) (length (property_bytes ps) - n) refl less)) ∙ sym (rows_other ns i h (less_property ps q)))
     (c.remove_slice.ensures ∙ (λ j. spliced_out (oc j) (kpr j) 1) ∙ cells_cut ns i h q l)
     (c.remove_slice-2.ensures ∙ (λ j. spliced_out (back j) k.at n) ∙ bytes_cut ns i h q l k.at n kat en)
     m.boot refl a1 a2 a3 wt

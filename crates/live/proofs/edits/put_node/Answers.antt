@@ -87,6 +87,6 @@ returns c =
     (c.insert_slice.ensures ∙ ap (λ t. spliced_in t i (row_of (bare_node d name) ∷ [])) (sym w.rows) ∙ rows_more ns i d name)
     (sym w.cells ∙ sym (cells_same ns i d name))
     (c.insert_slice-2.ensures ∙ (λ j. spliced_in (back j) (at j) name) ∙ bytes-more ns i d name)
-    m.boot refl in_rows w.properties_in_lem in-pool
+    m.boot refl in_rows w.properties_in in-pool
     (ap (λ x. m.counts.weight + x) c.node_weight.ensures ∙ ap (λ x. x + node_weight (length name)) w.weight ∙ sym (weight-more ns i d name))
     (room-from (m.counts.nodes + 1) (length xs) _ (length ys) l1 room.1 l3) c.requires.sound

@@ -412,7 +412,7 @@ returns c =
     let xs = c.insert_slice.new.xs in
     let ys = c.insert_slice-3.new.xs in
     let lz = length-set m.nodes.now i (rec (get_or m.nodes.now i e)) in
-    let a1 : m.counts.nodes ≤ length zs = omega (arith, w.nodes_in_lem, lz) in
+    let a1 : m.counts.nodes ≤ length zs = omega (arith, w.nodes_in, lz) in
     let a2 : m.counts.properties + 1 ≤ length xs = omega (arith, r.0, kc) in
     let a3 : m.size + length name + length value ≤ length ys = omega (arith, r.1, kp, kq) in
     let l1 : 256 ≤ length zs = omega (arith, room.0, lz) in
@@ -421,7 +421,7 @@ returns c =
     let ob = sym w.rows in
     let oc = sym w.cells in
     renew _ ms
-    (take-set-in m.counts.nodes i m.nodes.now (rec (get_or m.nodes.now i e)) in_rows w.nodes_in_lem ∙ (λ j. set (ob j) i (rec (row j))) ∙ ap (set (rows_of ns) i) (sym (row_put ns i h name value)) ∙ sym (rows_other ns i h ((name, value) ∷ ps)))
+    (take-set-in m.counts.nodes i m.nodes.now (rec (get_or m.nodes.now i e)) in_rows w.nodes_in ∙ (λ j. set (ob j) i (rec (row j))) ∙ ap (set (rows_of ns) i) (sym (row_put ns i h name value)) ∙ sym (rows_other ns i h ((name, value) ∷ ps)))
     (c.insert_slice.ensures ∙ (λ j. spliced_in (oc j) (pr j) (cell_of (name, value) ∷ [])) ∙ cells-put ns i h name value)
     (c.insert_slice-3.ensures ∙ ap (λ t. spliced_in t (s.at + (get_or m.nodes.now i e).name + length name) value) c.insert_slice-2.ensures ∙ (λ j. spliced_in (spliced_in (back j) (spot j) name) (spot j + length name) value) ∙ bytes-put ns i h name value)
     m.boot refl a1 a2 a3

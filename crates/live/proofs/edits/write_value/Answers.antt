@@ -145,4 +145,4 @@ returns c =
     let n : start + length u - start ≡ length u = omega arith in
     let bytes = put_over m.pool.now X x.1 Z u c.copy_from_slice.new.self m.size start (start + length u - start) (sym w.bytes ∙ bytes_were ns i h q l u same) w.size_in a same n c.copy_from_slice.ensures.after in
     let kp : length (put_mid start (start + length u - start) m.pool.now c.copy_from_slice.new.self) ≡ length m.pool.now = length_over m.pool.now c.copy_from_slice.new.self start (start + length u - start) (omega (arith, n, cn, kat, os, same, size_is m w, w.size_in)) (ap length c.copy_from_slice.ensures.after ∙ sym n) in
-    renew _ ms (sym w.rows ∙ sym (rows-over ns i h q l u same)) (sym w.cells ∙ sym (cells_over ns i h q l u same)) (bytes ∙ sym (bytes-over ns i h q l u same)) m.boot refl w.nodes_in_lem w.properties_in_lem (subst (λ z. m.size ≤ z) (sym kp) w.size_in) (w.weight ∙ sym (weight-over ns i h q l u same)) (room-from m.counts.nodes (length m.nodes.now) _ _ room.0 room.1 (subst (λ z. 24576 ≤ z) (sym kp) room.2)) c.requires.sound
+    renew _ ms (sym w.rows ∙ sym (rows-over ns i h q l u same)) (sym w.cells ∙ sym (cells_over ns i h q l u same)) (bytes ∙ sym (bytes-over ns i h q l u same)) m.boot refl w.nodes_in w.properties_in (subst (λ z. m.size ≤ z) (sym kp) w.size_in) (w.weight ∙ sym (weight-over ns i h q l u same)) (room-from m.counts.nodes (length m.nodes.now) _ _ room.0 room.1 (subst (λ z. 24576 ≤ z) (sym kp) room.2)) c.requires.sound
