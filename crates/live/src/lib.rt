@@ -2,7 +2,7 @@
 #![tactic(auto)]
 
 pub mod edits;
+pub mod live_store;
 pub mod memory;
 pub mod reads;
 pub mod slices;
-pub mod store;

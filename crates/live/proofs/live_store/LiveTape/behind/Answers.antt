@@ -1,5 +1,5 @@
 use Rattle.live.proofs.Flat.{whole_from}
-use Rattle.live.proofs.store.LiveTape.behind.Goals as goal
+use Rattle.live.proofs.live_store.LiveTape.behind.Goals as goal
 
 pub mark_behind-requires : goal.mark_behind-requires
 mark_behind-requires c =

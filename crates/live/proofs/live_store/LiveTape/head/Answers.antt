@@ -1,5 +1,5 @@
 use Rattle.live.proofs.Flat.{whole_from}
-use Rattle.live.proofs.store.LiveTape.head.Goals as goal
+use Rattle.live.proofs.live_store.LiveTape.head.Goals as goal
 
 pub head_at-requires : goal.head_at-requires
 head_at-requires c =

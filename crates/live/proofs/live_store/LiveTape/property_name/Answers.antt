@@ -1,5 +1,5 @@
 use Rattle.live.proofs.Flat.{whole_from}
-use Rattle.live.proofs.store.LiveTape.property_name.Goals as goal
+use Rattle.live.proofs.live_store.LiveTape.property_name.Goals as goal
 
 pub property_name_at-requires : goal.property_name_at-requires
 property_name_at-requires c =

@@ -1,5 +1,5 @@
 use Rattle.live.proofs.Flat.{whole_from}
-use Rattle.live.proofs.store.LiveTape.value.Goals as goal
+use Rattle.live.proofs.live_store.LiveTape.value.Goals as goal
 
 pub value_at-requires : goal.value_at-requires
 value_at-requires c =

@@ -1,5 +1,5 @@
 use Rattle.live.proofs.Flat.{whole_from}
-use Rattle.live.proofs.store.LiveTape.insert_node.Goals as goal
+use Rattle.live.proofs.live_store.LiveTape.insert_node.Goals as goal
 
 pub put_node-requires : goal.put_node-requires
 put_node-requires c =

@@ -1,5 +1,5 @@
 use Rattle.live.proofs.Flat.{whole_from}
-use Rattle.live.proofs.store.LiveTape.insert_property.Goals as goal
+use Rattle.live.proofs.live_store.LiveTape.insert_property.Goals as goal
 
 pub put_property-requires : goal.put_property-requires
 put_property-requires c =

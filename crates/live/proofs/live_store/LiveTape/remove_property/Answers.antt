@@ -1,7 +1,7 @@
 use Rattle.std.proofs.Common.{ap, ◌∙◌}
 use Rattle.live.proofs.Flat.{whole_from, spot_stays}
 use Rattle.live.specs.Records.{held, spot_in}
-use Rattle.live.proofs.store.LiveTape.remove_property.Goals as goal
+use Rattle.live.proofs.live_store.LiveTape.remove_property.Goals as goal
 
 pub cut_property-requires : goal.cut_property-requires
 cut_property-requires c =

@@ -1,5 +1,5 @@
 use Rattle.live.proofs.Flat.{whole_from}
-use Rattle.live.proofs.store.LiveTape.overwrite.Goals as goal
+use Rattle.live.proofs.live_store.LiveTape.overwrite.Goals as goal
 
 pub write_value-requires : goal.write_value-requires
 write_value-requires c =

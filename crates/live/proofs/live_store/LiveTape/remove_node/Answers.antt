@@ -1,5 +1,5 @@
 use Rattle.live.proofs.Flat.{whole_from}
-use Rattle.live.proofs.store.LiveTape.remove_node.Goals as goal
+use Rattle.live.proofs.live_store.LiveTape.remove_node.Goals as goal
 
 pub cut_node-requires : goal.cut_node-requires
 cut_node-requires c =
