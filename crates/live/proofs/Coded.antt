@@ -1,12 +1,9 @@
 -- Records and a pool spell the nodes that they were made from. Assumes nothing.
-use Rattle.std.proofs.Common.{◌≡◌, ℕ, suc, ◌+◌, ◌-◌, ◌<◌, ◌≤◌, List, [], ◌∷◌, ◌++◌, map, length, get_or, take, drop, sym, refl, ap, ◌∙◌, subst, append_assoc, arith}
-use Rattle.std.proofs.lemmas.List.{take_at, drop_at, length-append, length-map, map-append, take-append-drop, drop_more}
+use Rattle.std.proofs.Common.{◌≡◌, List, [], ◌∷◌, ◌++◌, map, length, take, drop, sym, refl, ap, ◌∙◌, append_assoc}
+use Rattle.std.proofs.lemmas.List.{take_at, drop_at, length-map}
 use Rattle.tree.specs.Places.{Bytes}
 use Rattle.tape.specs.Nodes.{Node, Property}
-use Rattle.tape.specs.Tapes.{nowhere, nth, properties_at, property_of}
-use Rattle.live.specs.declared.memory.NodeRecord.{NodeRecord}
-use Rattle.live.specs.declared.memory.PropertyRecord.{PropertyRecord}
-use Rattle.live.specs.Records.{cell_of, property_bytes, row_of, rows_of, cells_of, bytes_of, properties_from, nodes_from}
+use Rattle.live.specs.Records.{cell_of, property_bytes, rows_of, cells_of, bytes_of, properties_from, nodes_from}
 
 pub properties_coded : (xs : List Property) (rest : Bytes) → properties_from (map cell_of xs) (property_bytes xs ++ rest) ≡ xs
 unfolding properties_from property_bytes

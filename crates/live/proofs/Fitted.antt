@@ -1,13 +1,13 @@
 -- Every list within the limits fits into the memory. Assumes nothing.
-use Rattle.std.proofs.Common.{◌≡◌, ℕ, ◌+◌, ◌-◌, ◌<◌, ◌≤◌, Bool, true, false, ◌&&◌, ◌||◌, eqb, leb, ◌⊎◌, List, [], ◌∷◌, ◌++◌, map, length, take, drop, sym, refl, ap, ◌∙◌, subst, inl, inr, ⊎_elim, arith}
-use Rattle.std.proofs.lemmas.Bool.{and_parts, and_from, or_cases, or_right, or_left, eqb-true, leb-true, le-leb}
-use Rattle.std.proofs.lemmas.List.{length-append, length-map, length-take-le, length-drop, take-append-drop}
+use Rattle.std.proofs.Common.{◌≡◌, ℕ, ◌+◌, ◌<◌, ◌≤◌, true, ◌&&◌, ◌||◌, eqb, leb, List, ◌∷◌, ◌++◌, map, length, take, drop, sym, ap, ⊎_elim, arith}
+use Rattle.std.proofs.lemmas.Bool.{and_parts, and_from, or_cases, or_right, eqb-true, leb-true, le-leb}
+use Rattle.std.proofs.lemmas.List.{length-append, length-take-le, length-drop, take-append-drop}
 use Rattle.tree.specs.Places.{Bytes}
 use Rattle.tape.specs.Nodes.{Node, valid}
 use Rattle.tape.specs.Tapes.{nth, properties_at, bare_node, with_node, with_properties, weight_of, node_weight, property_weight}
 use Rattle.tape.proofs.Sums.{within_limits}
 use Rattle.live.specs.declared.memory.Memory.{Memory}
-use Rattle.live.specs.Records.{held, cell_of, property_bytes, bytes_of, cells_of, room_for, Whole}
+use Rattle.live.specs.Records.{held, cell_of, property_bytes, bytes_of, cells_of, Whole}
 use Rattle.live.proofs.Coded.{bytes_join}
 use Rattle.live.proofs.Moved.{bytes-more, weight-more, cells-other, bytes-other, weight-put}
 use Rattle.live.proofs.Kept.{count-is, cells_are, size_is, nodes_light, cells_count, cells_at_lem, bytes-at}

@@ -1,5 +1,5 @@
 -- Records are known by the numbers in them. Assumes nothing.
-use Rattle.std.proofs.Common.{◌≡◌, ℕ, ◌≤◌, true, List, [], ◌∷◌, length, sym, refl, ap, ◌∙◌, arith}
+use Rattle.std.proofs.Common.{◌≡◌, ℕ, ◌≤◌, true, List, [], ◌∷◌, length, refl, ap, arith}
 use Rattle.live.specs.declared.memory.NodeRecord.{NodeRecord}
 use Rattle.live.specs.declared.memory.PropertyRecord.{PropertyRecord}
 use Rattle.std.proofs.lemmas.List.{take-set}
@@ -34,8 +34,8 @@ cells-only (x ∷ xs) (y ∷ ys) e =
 
 pub whole_from : (m : Memory) → m.counts.nodes ≤ length m.nodes.now → m.counts.properties ≤ length m.properties.now → m.size ≤ length m.pool.now → flat_rows (rows_of (held m)) ≡ flat_rows (used_rows m) → flat_cells (cells_of (held m)) ≡ flat_cells (used_cells m) → bytes_of (held m) ≡ used_bytes m → m.counts.weight ≡ weight_of (held m) → room_for m ≡ true → valid m.boot (held m) ≡ true → Whole m
 whole_from m a b c d e f g h v = record {
-  nodes_in_lem = a;
-  properties_in_lem = b;
+  nodes_in = a;
+  properties_in = b;
   size_in = c;
   rows = rows-only _ _ d;
   cells = cells-only _ _ e;

@@ -1,17 +1,17 @@
 -- What the memory of the live store keeps. Assumes nothing.
-use Rattle.std.proofs.Common.{◌≡◌, ℕ, suc, ◌+◌, ◌-◌, ◌<◌, ◌≤◌, true, List, [], ◌∷◌, ◌++◌, map, length, get_or, take, drop, set, sym, refl, ap, ◌∙◌, subst, append_assoc, append-nil, arith}
-use Rattle.std.proofs.lemmas.List.{take_at, drop_at, take-take, take_all, take_more, drop_more, drop-drop, drop-take, length-append, length-map, length-take-le, length-drop, map-append, take-map, drop-map, get_or-map, get_or-take, get_or_at, get_or-drop, take-append-drop, get_or-append-add, get_or_append_left, get_or_default}
+use Rattle.std.proofs.Common.{◌≡◌, ℕ, ◌+◌, ◌-◌, ◌<◌, ◌≤◌, List, [], ◌∷◌, ◌++◌, map, length, get_or, take, drop, sym, refl, ap, ◌∙◌, append_assoc, arith}
+use Rattle.std.proofs.lemmas.List.{take_at, drop_at, take-take, take_more, drop_more, drop-take, length-append, length-map, length-take-le, get_or-map, get_or-take, take-append-drop, get_or-append-add, get_or_append_left}
 use Rattle.tree.specs.Places.{Bytes}
 use Rattle.tape.specs.Nodes.{Node, Property}
 use Rattle.tape.specs.Tapes.{nowhere, nth, properties_at, property_of, Counted, properties_of, weight_of}
 use Rattle.tape.specs.declared.Mark.{Mark}
 use Rattle.tape.specs.declared.Spot.{Spot}
-use Rattle.tape.specs.Tapes.{Here, On, node_weight, property_weight, properties_weight}
+use Rattle.tape.specs.Tapes.{Here, On, properties_weight}
 use Rattle.tape.proofs.Sums.{within_limits}
 use Rattle.live.specs.declared.memory.Memory.{Memory}
 use Rattle.live.specs.declared.memory.NodeRecord.{NodeRecord}
 use Rattle.live.specs.declared.memory.PropertyRecord.{PropertyRecord}
-use Rattle.live.specs.Records.{cell_of, property_bytes, row_of, rows_of, cells_of, bytes_of, used_rows, used_cells, used_bytes, held, Whole, spot_in, mark_in}
+use Rattle.live.specs.Records.{cell_of, property_bytes, row_of, cells_of, bytes_of, held, Whole, spot_in, mark_in}
 use Rattle.live.proofs.Coded.{bytes_join, cells_join, property-bytes_join}
 
 -- ---- a list of nodes around one of them
@@ -97,10 +97,10 @@ part-is pool X Y Z size at len e h a b =
 
 module _ (m : Memory) (w : Whole m) where
   pub count-is : length (held m) ≡ m.counts.nodes
-  count-is = sym (length-map (held m) row_of) ∙ ap length w.rows ∙ length-take-le _ _ w.nodes_in_lem
+  count-is = sym (length-map (held m) row_of) ∙ ap length w.rows ∙ length-take-le _ _ w.nodes_in
 
   pub cells_are : length (cells_of (held m)) ≡ m.counts.properties
-  cells_are = ap length w.cells ∙ length-take-le _ _ w.properties_in_lem
+  cells_are = ap length w.cells ∙ length-take-le _ _ w.properties_in
 
   pub size_is : length (bytes_of (held m)) ≡ m.size
   size_is = ap length w.bytes ∙ length-take-le _ _ w.size_in
@@ -151,7 +151,7 @@ module _ (m : Memory) (w : Whole m) (s : Spot) (h : Here (held m) (spot_in (held
   spot_row d = row_is m w s.node d h.inside
 
   pub spot_in_lem : (s.node < length m.nodes.now) × (s.node < 256)
-  spot_in_lem = let b = bounds m w in (omega (arith, h.inside, count-is m w, w.nodes_in_lem), omega (arith, h.inside, count-is m w, b.0))
+  spot_in_lem = let b = bounds m w in (omega (arith, h.inside, count-is m w, w.nodes_in), omega (arith, h.inside, count-is m w, b.0))
 
   pub spot-at : s.at ≡ length (bytes_of (take s.node (held m)))
   spot-at = ap (λ x. x.at) h.is
@@ -181,7 +181,7 @@ module _ (m : Memory) (w : Whole m) (k : Mark) (o : On (held m) (mark_in (held m
   pub mark-in : (k.property < length m.properties.now) × (k.property < 1024)
   mark-in =
       let c = cells-short (held m) k.node o.inside k.number o.within in
-      (omega (arith, c, mark-property, cells_are m w, w.properties_in_lem), omega (arith, c, mark-property, cells_are m w, (bounds m w).1))
+      (omega (arith, c, mark-property, cells_are m w, w.properties_in), omega (arith, c, mark-property, cells_are m w, (bounds m w).1))
 
   abbrev y : Property
   y = property_of (held m) k.node k.number

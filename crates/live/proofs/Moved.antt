@@ -1,18 +1,15 @@
 -- Records and pool after a splice. Assumes nothing.
-use Rattle.std.proofs.Common.{◌≡◌, ℕ, suc, ◌+◌, ◌-◌, ◌<◌, ◌≤◌, Bool, true, false, ◌&&◌, ◌||◌, eqb, leb, ◌⊎◌, List, [], ◌∷◌, ◌++◌, map, length, get_or, take, drop, set, sym, refl, ap, ◌∙◌, subst, inl, inr, ⊎_elim, append_assoc, append-nil, add-one, arith}
+use Rattle.std.proofs.Common.{◌≡◌, ℕ, suc, ◌+◌, ◌-◌, ◌<◌, ◌≤◌, true, List, [], ◌∷◌, ◌++◌, map, length, take, drop, set, sym, refl, ap, ◌∙◌, append_assoc, add-one, arith}
 use borrow.Rule.Slice.PartMut.{put_mid}
 use Rattle.std.proofs.lemmas.List.{take_at, drop_at, take-append-drop, drop_more, drop-drop, length-append, length-map, length-take-le, length-drop, length-set, map-append, map-set, take-map, drop-map, set_split, set-append_left, set-get_or, get_or-map}
-use Rattle.std.proofs.lemmas.Bool.{and_parts, or_cases, eqb-true, leb-true, cases_Bool}
 use Rattle.tree.specs.Places.{Bytes}
 use Rattle.tape.specs.Nodes.{Node, Property, valid}
 use Rattle.tape.specs.Tapes.{nowhere, nth, properties_at, property_of, bare_node, with_node, less_node, with_properties, less_property, weight_of, node_weight, property_weight, properties_weight}
 use Rattle.live.specs.declared.memory.Memory.{Memory}
-use Rattle.live.specs.declared.memory.NodeRecord.{NodeRecord}
-use Rattle.live.specs.declared.memory.PropertyRecord.{PropertyRecord}
-use Rattle.live.specs.Records.{cell_of, property_bytes, row_of, rows_of, cells_of, bytes_of, nodes_from, used_rows, used_cells, used_bytes, held, room_for, Whole, Renewed}
+use Rattle.live.specs.Records.{cell_of, property_bytes, row_of, rows_of, cells_of, bytes_of, nodes_from, used_rows, used_cells, used_bytes, held, room_for, Renewed}
 use Rattle.live.specs.Splices.{spliced_in, spliced_out}
 use Rattle.live.proofs.Coded.{nodes_coded, bytes_join, cells_join, property-bytes_join}
-use Rattle.live.proofs.Kept.{bytes-at, cells_at_lem, bytes_on, count-is}
+use Rattle.live.proofs.Kept.{bytes-at, cells_at_lem, bytes_on}
 
 -- ---- memory that spells a list
 
@@ -25,8 +22,8 @@ module _ (m : Memory) (ms : List Node) (rows : used_rows m ≡ rows_of ms) (cell
     is = held-is;
     boot = eb;
     whole = record {
-      nodes_in_lem = hn;
-      properties_in_lem = hp;
+      nodes_in = hn;
+      properties_in = hp;
       size_in = hs;
       rows = ap rows_of held-is ∙ sym rows;
       cells = ap cells_of held-is ∙ sym cells;

@@ -1,5 +1,5 @@
 -- Nodes in records and a byte pool: each record's bytes are the next ones of the pool, so that records hold lengths alone. Assumes nothing.
-use Rattle.std.specs.Prelude.{◌≡◌, ℕ, ◌+◌, ◌≤◌, Bool, true, false, ◌&&◌, ◌||◌, List, [], ◌∷◌, ◌++◌, map, length, take, drop, ◌==◌, nat_le}
+use Rattle.std.specs.Prelude.{◌≡◌, ℕ, ◌+◌, ◌≤◌, Bool, true, ◌&&◌, ◌||◌, List, [], ◌∷◌, ◌++◌, map, length, take, drop, ◌==◌, nat_le}
 use Rattle.tree.specs.Places.{Bytes}
 use Rattle.tape.specs.declared.Mark.{Mark}
 use Rattle.tape.specs.declared.Spot.{Spot}
@@ -65,8 +65,8 @@ room_for m =
 
 -- what always holds of the memory
 pub record Whole (m : Memory) : Type 0 where
-  pub nodes_in_lem : m.counts.nodes ≤ length m.nodes.now
-  pub properties_in_lem : m.counts.properties ≤ length m.properties.now
+  pub nodes_in : m.counts.nodes ≤ length m.nodes.now
+  pub properties_in : m.counts.properties ≤ length m.properties.now
   pub size_in : m.size ≤ length m.pool.now
   pub rows : rows_of (held m) ≡ used_rows m
   pub cells : cells_of (held m) ≡ used_cells m

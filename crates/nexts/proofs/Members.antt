@@ -1,25 +1,24 @@
 -- The names that a tape has are those that its tree has. Assumes nothing.
-use Rattle.std.proofs.Common.{◌≡◌, ℕ, suc, ◌+◌, ◌-◌, ◌<◌, ◌≤◌, Bool, true, false, cond, not, ◌&&◌, ◌||◌, eqb, leb, ◌⊎◌, List, [], ◌∷◌, ◌++◌, length, get_or, take, drop, Some, None, Option, Ordering, Less, Equal, Greater, sym, refl, ap, ◌∙◌, subst, inl, inr, ⊎_elim, arith}
+use Rattle.std.proofs.Common.{◌≡◌, ℕ, suc, ◌+◌, ◌<◌, Bool, true, false, cond, not, ◌&&◌, eqb, leb, ◌⊎◌, List, [], ◌∷◌, ◌++◌, length, take, drop, Some, None, Option, Ordering, Less, Equal, Greater, sym, refl, ap, ◌∙◌, subst, inl, inr, ⊎_elim, arith}
 use Rattle.std.specs.Ordering.{match_ordering as by_order}
 use Rattle.std.specs.Str.{bytes_eq}
 use Rattle.std.proofs.lemmas.Slice.Eq.{bytes_eq-Decides}
 use Rattle.std.proofs.lemmas.List.{length-append}
-use Rattle.std.proofs.lemmas.Bool.{true≢false, false≢true, cond-true, cond-false, and_parts, and_from, cases_Bool, eqb-true, not-true}
+use Rattle.std.proofs.lemmas.Bool.{true≢false, cond-true, and_parts, and_from, not-true}
 use Rattle.names.specs.Names.{node_name, property_name}
 use Rattle.names.specs.Paths.{root, path_text, stem, leaf, parent}
-use Rattle.names.proofs.NameLaws.{node_names, property_names}
+use Rattle.names.proofs.NameLaws.{node_names}
 use Rattle.names.proofs.PathLaws.{path_splits, parent_of, behind-last, stem-other}
 use Rattle.tree.specs.Maps.{find, Rises}
 use Rattle.tree.specs.Places.{Bytes, Place, node_at, property_at, order}
-use Rattle.tree.specs.Trees.{Places, Tree, Sound, look, named_place}
-use Rattle.tree.proofs.Maps.{some-none, some_one, head-found, find-tail}
+use Rattle.tree.specs.Trees.{Places, Tree, look}
+use Rattle.tree.proofs.Maps.{some-none, head-found, find-tail}
 use Rattle.tree.proofs.Places.{place-order}
 use Rattle.store.specs.Calls.{names, child_on, property_on, least_after}
-use Rattle.store.specs.Laws.{Among, Least}
+use Rattle.store.specs.Laws.{Among}
 use Rattle.store.proofs.Nexts.{same-least, least_law}
-use Rattle.tape.specs.Nodes.{Node, Property, shaped, height, step, ended, path_of, listed, tree_from, fits, valid, Missing, child_in, property_in, further}
+use Rattle.tape.specs.Nodes.{Node, Property, shaped, path_of, tree_from, fits, valid, Missing, child_in, property_in, further}
 use Rattle.tape.specs.Tapes.{nth, properties_at, stem_at}
-use Rattle.tape.proofs.Arranged.{seek}
 use Rattle.tape.proofs.Around.{around}
 use Rattle.tape.proofs.Descent.{at_index, descend_none, descend_some}
 use Rattle.tape.proofs.Finds.{fit_parts}

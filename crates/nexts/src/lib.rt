@@ -1,5 +1,6 @@
 // The next child and the next property of a node, on any tape.
 #![tactic(auto)]
+
 ghost use Rattle.std.specs.Prelude.{◌≡◌, ◌+◌, ◌||◌, length, drop, ◌==◌};
 ghost use Rattle.nexts.specs.Kids.{kids, keys, shown_name, better};
 ghost use Rattle.store.specs.Calls.{least_after, later, length_of, named, next_child, next_property};

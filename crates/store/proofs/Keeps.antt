@@ -1,19 +1,18 @@
 -- Each write leaves a tree by the rules. Assumes nothing.
-use Rattle.std.proofs.Common.{◌≡◌, ℕ, ◌+◌, ◌^◌, ◌<◌, ◌≤◌, Bool, true, false, cond, not, ◌&&◌, ◌||◌, leb, ◌⊎◌, List, [], ◌∷◌, ◌++◌, is_some, Some, None, Ok, Err, Option, Result, Ordering, Less, Equal, Greater, sym, refl, ap, ◌∙◌, subst, inl, inr, ⊎_elim, arith}
-use Rattle.std.specs.Ordering.{is_lt, is_eq, match_ordering as by_order}
+use Rattle.std.proofs.Common.{◌≡◌, ℕ, ◌^◌, ◌<◌, ◌≤◌, Bool, true, false, cond, not, ◌&&◌, leb, ◌⊎◌, List, [], ◌∷◌, ◌++◌, is_some, Some, None, Ok, Err, Option, Result, Ordering, Less, Equal, Greater, sym, refl, ap, ◌∙◌, subst, ⊎_elim, arith}
+use Rattle.std.specs.Ordering.{match_ordering as by_order}
 use Rattle.std.specs.Str.{bytes_eq}
 use Rattle.std.proofs.lemmas.Slice.Eq.{bytes_eq-Decides}
 use Rattle.std.proofs.lemmas.Bool.{true≢false, false≢true, cases_Bool, and_parts, and_from, or_parts, not-true, leb-true, le-leb}
-use Rattle.std.proofs.lemmas.Bool.Decides.{nat_tests}
 use Rattle.names.specs.Names.{property_name}
 use Rattle.names.specs.Paths.{root, path_text, parent, leaf, behind_last}
-use Rattle.tree.specs.Maps.{find, upd, Rises, worth, total}
+use Rattle.tree.specs.Maps.{find, Rises, total}
 use Rattle.tree.specs.Places.{Bytes, Place, node_at, property_at, order}
 use Rattle.tree.specs.Trees.{Places, Tree, Sound, look, change, node_count, property_count, weigh, nodes, properties, weight, roomy, short_place, named_place, up_place}
 use Rattle.store.specs.declared.Refusal.{Refusal}
-use Rattle.store.specs.declared.Refusal.TheVariants.{BadName, Absent, Present, InUse, Limit, Short, Closed}
-use Rattle.store.specs.Calls.{Meaning, closed, holds, Good, there, admitted, none, names, child_on, property_on, in_use, add_node, drop_node, set_property, drop_property, changed, settled}
-use Rattle.store.specs.Laws.{seen, Writes, StoreLaws}
+use Rattle.store.specs.declared.Refusal.TheVariants.{BadName, Absent, Present, InUse, Limit, Closed}
+use Rattle.store.specs.Calls.{Meaning, closed, holds, Good, there, admitted, none, names, child_on, property_on, in_use, add_node, drop_node, set_property, drop_property}
+use Rattle.store.specs.Laws.{Writes, StoreLaws}
 use Rattle.store.proofs.Nexts.{least_law}
 use Rattle.tree.proofs.MapLaws.{decide}
 use Rattle.tree.proofs.Maps.{some-none, some_one, find-same, find-other, rises-upd, total-upd}

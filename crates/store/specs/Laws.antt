@@ -1,7 +1,7 @@
 -- What the definitions of the calls promise over every tree by the rules. Assumes nothing.
-use Rattle.std.specs.Prelude.{◌≡◌, Bool, true, false, ◌⊎◌, List, [], ◌∷◌, Some, None, Ok, Err, Option, Result, ◌≢◌}
+use Rattle.std.specs.Prelude.{◌≡◌, true, false, ◌⊎◌, List, [], ◌∷◌, Some, None, Ok, Err, Option, Result, ◌≢◌}
 use Rattle.tree.specs.Places.{Bytes, Place, node_at, property_at}
-use Rattle.tree.specs.Trees.{Places, Tree, Sound, look}
+use Rattle.tree.specs.Trees.{look}
 use Rattle.store.specs.declared.Refusal.{Refusal}
 use Rattle.store.specs.Calls.{Meaning, closed, holds, Good, boot_of, add_node, drop_node, set_property, drop_property, changed, settled, later, least_after}
 

@@ -1,5 +1,6 @@
 // Readable trees and stores: the traits, and what every call of theirs promises.
 #![tactic(auto)]
+
 ghost use Rattle.std.specs.Prelude.{◌≡◌, [], length, Some, None};
 ghost use Rattle.store.specs.Calls.{Meaning, Good, has_node, value_at, length_of, copied, filled, next_child, next_property, named, boot_of, add_node, drop_node, set_property, drop_property, changed, settled};
 ghost use Rattle.store.specs.Laws.{StoreLaws};

@@ -1,20 +1,17 @@
 -- One node among all: what stands before it and behind it. Assumes nothing.
-use Rattle.std.proofs.Common.{◌≡◌, ℕ, suc, ◌+◌, ◌-◌, ◌<◌, ◌≤◌, Bool, true, false, cond, not, ◌&&◌, eqb, leb, ◌⊎◌, List, [], ◌∷◌, ◌++◌, length, get_or, take, drop, Some, None, Option, sym, refl, ap, ◌∙◌, subst, inl, inr, ⊎_elim, append_assoc, arith}
-use Rattle.std.specs.Str.{bytes_eq}
-use Rattle.std.proofs.lemmas.Slice.Eq.{bytes_eq-Decides}
-use Rattle.std.proofs.lemmas.List.{length-append, nil_from_length}
-use Rattle.std.proofs.lemmas.Bool.{cases_Bool, cond-true, cond-false, true≢false, false≢true, and_parts, and_from, eqb-true, eqb-false, eq-eqb}
-use Rattle.names.specs.Names.{node_name}
-use Rattle.names.specs.Paths.{root, plain}
-use Rattle.tree.specs.Places.{Bytes, Place, node_at, property_at, order}
+use Rattle.std.proofs.Common.{◌≡◌, ℕ, suc, ◌<◌, ◌≤◌, true, ◌&&◌, eqb, List, [], ◌∷◌, ◌++◌, length, take, Some, None, Option, sym, refl, ap, ◌∙◌, subst, ⊎_elim, arith}
+use Rattle.std.proofs.lemmas.List.{nil_from_length}
+use Rattle.std.proofs.lemmas.Bool.{cond-true, and_parts, and_from, eqb-true}
+use Rattle.names.specs.Paths.{plain}
+use Rattle.tree.specs.Places.{Bytes, Place, node_at, property_at}
 use Rattle.tree.specs.Trees.{Places}
 use Rattle.tree.proofs.MapLaws.{decide}
 use Rattle.tree.proofs.Maps.{some-none}
 use Rattle.tree.proofs.Places.{place-order}
-use Rattle.tape.specs.Nodes.{Node, Property, cut, height, step, ended, path_of, listed, spread, arranged, fits, fitting, shaped, apart, Every, Missing, further, child_in, property_in}
-use Rattle.tape.proofs.Arranged.{seek, seek-none, seek-here, seek-past, seek-parts, seek_join, seek-mid, apart-mid}
+use Rattle.tape.specs.Nodes.{Node, height, step, ended, path_of, listed, spread, fits, fitting, shaped, apart, Every, Missing, child_in}
+use Rattle.tape.proofs.Arranged.{seek, seek-none, seek-here, seek-past, seek_join, seek-mid, apart-mid}
 use Rattle.tape.proofs.Stems.{height-child, height_join, cut_all, cut_join}
-use Rattle.tape.proofs.Finds.{Within, Proper, fit_parts, fit-step, orphans, child-none, child-some, every_join, every_parts, ended_join, spread_join, missing_seek, seek_missing, listed-node, listed-other, path-only, step_proper}
+use Rattle.tape.proofs.Finds.{Within, Proper, fit_parts, fit-step, orphans, child-none, child-some, every_join, spread_join, missing_seek, seek_missing, listed-node, listed-other, path-only, step_proper}
 
 -- the root, as the first of all nodes
 pub root-parts : (n : Node) (ns : List Node) → shaped (n ∷ ns) ≡ true → (n.depth ≡ 0) × (n.name ≡ []) × (fits 0 ns ≡ true) × ((s : Bytes) → step s n ≡ [])

@@ -1,23 +1,21 @@
 -- What a splice makes of the tree. Assumes nothing.
-use Rattle.std.proofs.Common.{◌≡◌, ℕ, suc, ◌+◌, ◌-◌, ◌<◌, ◌≤◌, Bool, true, false, cond, not, ◌&&◌, eqb, leb, ◌⊎◌, List, [], ◌∷◌, ◌++◌, length, get_or, take, drop, set, Some, None, Option, sym, refl, ap, ◌∙◌, subst, inl, inr, ⊎_elim, append_assoc, add-one, arith}
-use Rattle.std.proofs.lemmas.List.{take-append-drop, drop_more, take_more, set_split, length-take-le, nil_from_length}
-use Rattle.std.proofs.lemmas.Bool.{and_parts, and_from}
-use Rattle.names.specs.Names.{node_name}
-use Rattle.names.specs.Paths.{root, path_text, stem, leaf, parent, plain}
+use Rattle.std.proofs.Common.{◌≡◌, ℕ, ◌+◌, ◌<◌, true, List, [], ◌∷◌, ◌++◌, length, take, drop, set, Some, None, Option, sym, refl, ap, ◌∙◌, subst, append_assoc, add-one, arith}
+use Rattle.std.proofs.lemmas.List.{take-append-drop, drop_more, set_split, length-take-le}
+use Rattle.names.specs.Paths.{root, path_text, stem, leaf, parent}
 use Rattle.names.proofs.PathLaws.{path_splits, path_starts}
 use Rattle.tree.specs.Maps.{upd}
 use Rattle.tree.specs.Places.{Bytes, Place, node_at, property_at, order}
-use Rattle.tree.specs.Trees.{Places, Tree, Sound, look, change}
+use Rattle.tree.specs.Trees.{Places, Sound, look, change}
 use Rattle.tree.proofs.MapLaws.{upd-twice}
 use Rattle.tree.proofs.Places.{place-order}
-use Rattle.store.specs.Calls.{Meaning, closed, holds, changed}
+use Rattle.store.specs.Calls.{holds, changed}
 use Rattle.tape.specs.Nodes.{Node, Property, height, step, ended, path_of, listed, spread, arranged, tree_from, meaning_of, fits, shaped, apart, valid, sound_nodes}
-use Rattle.tape.specs.Tapes.{nowhere, nth, properties_at, property_of, stem_at, with_node, less_node, with_properties, less_property, aside}
+use Rattle.tape.specs.Tapes.{nth, properties_at, property_of, stem_at, with_node, less_node, with_properties, less_property, aside}
 use Rattle.tape.proofs.Arranged.{seek, arranged-rises, arranged-insert, arranged-remove, arranged_replace, seek-parts, apart_more, apart-less, apart_other}
 use Rattle.tape.proofs.Around.{around, fits-back, fits-nil, root-parts, shaped-front}
 use Rattle.tape.proofs.Descent.{at_index, stem_index}
-use Rattle.tape.proofs.Finds.{spread_join, ended_join, path-full}
-use Rattle.tape.proofs.Looks.{own-path, path-of-stem, open_is}
+use Rattle.tape.proofs.Finds.{spread_join, path-full}
+use Rattle.tape.proofs.Looks.{own-path, open_is}
 use Rattle.tape.proofs.Sounds.{parts, whole, sound-test}
 use Rattle.tape.proofs.Splices.{fresh, insert-spread, insert-fits, shaped_join, remove-spread, remove-fits, dressed, shaped-dressed, spread-dressed, listed_join}
 

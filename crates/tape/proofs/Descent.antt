@@ -1,14 +1,14 @@
 -- The node at a path, name by name. Assumes nothing.
-use Rattle.std.proofs.Common.{◌≡◌, ℕ, suc, ◌+◌, ◌-◌, ◌<◌, ◌≤◌, Bool, true, false, cond, not, ◌&&◌, eqb, leb, ◌⊎◌, List, [], ◌∷◌, ◌++◌, length, get_or, take, drop, Some, None, Option, sym, refl, ap, ◌∙◌, subst, inl, inr, ⊎_elim, append_assoc, append-nil, add-one, arith}
-use Rattle.std.proofs.lemmas.List.{take-append-drop, drop_more, take_more, take_at, drop_at, take-take, take_all, length-take-le, length-append, length-drop, drop-take, drop-drop, at_drop_more, nil_from_length}
-use Rattle.std.proofs.lemmas.Bool.{cond-true, cond-false, not_from_false, and_from, eqb-true, cases_Bool, cases_eq}
-use Rattle.names.specs.Names.{before, each}
+use Rattle.std.proofs.Common.{◌≡◌, ℕ, suc, ◌+◌, ◌-◌, ◌<◌, ◌≤◌, Bool, true, false, cond, eqb, List, [], ◌∷◌, ◌++◌, length, take, drop, Some, None, Option, sym, refl, ap, ◌∙◌, subst, ⊎_elim, append_assoc, add-one, arith}
+use Rattle.std.proofs.lemmas.List.{take-append-drop, drop_more, take_more, take-take, take_all, length-drop, drop-take, nil_from_length}
+use Rattle.std.proofs.lemmas.Bool.{not_from_false, and_from, eqb-true, cases_eq}
+use Rattle.names.specs.Names.{before}
 use Rattle.names.specs.Paths.{root, path_text, stem, plain}
 use Rattle.names.proofs.PathLaws.{stem-root, stem-other, path_starts}
 use Rattle.tree.specs.Places.{Bytes}
 use Rattle.tape.specs.declared.Spot.{Spot}
-use Rattle.tape.specs.Nodes.{Node, step, ended, height, spread, shaped, apart, Missing, child_in}
-use Rattle.tape.specs.Tapes.{nowhere, nth, stem_at, placed, Here, Located}
+use Rattle.tape.specs.Nodes.{Node, step, ended, spread, shaped, apart, Missing, child_in}
+use Rattle.tape.specs.Tapes.{nowhere, nth, stem_at, placed, Here}
 use Rattle.tape.proofs.Around.{child-gone, child-found, deeper, root-parts}
 use Rattle.tape.proofs.Finds.{ended_join}
 use Rattle.tape.proofs.Stems.{height-child}

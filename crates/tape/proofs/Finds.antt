@@ -1,19 +1,19 @@
 -- Where a node is among the nodes, by its path. Assumes nothing.
-use Rattle.std.proofs.Common.{◌≡◌, ℕ, suc, ◌+◌, ◌-◌, ◌<◌, ◌≤◌, Bool, true, false, cond, not, ◌&&◌, eqb, leb, ◌⊎◌, List, [], ◌∷◌, ◌++◌, length, take, drop, Some, None, Option, sym, refl, ap, ◌∙◌, subst, inl, inr, ⊎_elim, append_assoc, arith}
+use Rattle.std.proofs.Common.{◌≡◌, ℕ, suc, ◌+◌, ◌-◌, ◌<◌, ◌≤◌, Bool, true, false, cond, ◌&&◌, eqb, leb, ◌⊎◌, List, [], ◌∷◌, ◌++◌, length, take, Some, None, Option, sym, refl, ap, ◌∙◌, subst, inl, inr, ⊎_elim, append_assoc, arith}
 use Rattle.std.specs.Str.{bytes_eq}
 use Rattle.std.proofs.lemmas.Slice.Eq.{bytes_eq-Decides}
 use Rattle.std.proofs.lemmas.List.{append_cancel_left, length-append}
-use Rattle.std.proofs.lemmas.Bool.{cases_Bool, cond-true, cond-false, true≢false, false≢true, and_parts, and_from, eqb-true, eqb-false, eq-eqb, ne_eqb, leb-true, leb-false, cases_lt, not-true}
+use Rattle.std.proofs.lemmas.Bool.{cond-false, true≢false, and_parts, and_from, eqb-true, eq-eqb, ne_eqb, leb-true, leb-false, cases_lt}
 use Rattle.names.proofs.NameLaws.{node_names}
 use Rattle.names.specs.Names.{node_name}
-use Rattle.names.specs.Paths.{root, plain}
-use Rattle.tree.specs.Places.{Bytes, Place, node_at, property_at, order}
+use Rattle.names.specs.Paths.{plain}
+use Rattle.tree.specs.Places.{Bytes, Place, node_at, property_at}
 use Rattle.tree.specs.Trees.{Places}
 use Rattle.tree.proofs.Maps.{some-none}
 use Rattle.tree.proofs.MapLaws.{decide}
 use Rattle.tree.proofs.Places.{place-order}
-use Rattle.tape.specs.Nodes.{Node, Property, cut, height, step, ended, path_of, listed, spread, arranged, fits, fitting, shaped, apart, Every, Missing, further, child_in, property_in}
-use Rattle.tape.proofs.Arranged.{seek, seek-none, seek-here, seek-past, seek-parts, seek_join, seek-mid, apart-mid}
+use Rattle.tape.specs.Nodes.{Node, Property, cut, height, step, ended, path_of, listed, spread, fits, fitting, Every, Missing, further, child_in}
+use Rattle.tape.proofs.Arranged.{seek, seek-none, seek-here, seek-past}
 use Rattle.tape.proofs.Stems.{height-child, cut_all, cut_join, step_is, step-height, step_cut}
 
 -- a is the path at or above s

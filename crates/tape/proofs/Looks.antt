@@ -1,19 +1,18 @@
 -- What is there, by where it was found. Assumes nothing.
-use Rattle.std.proofs.Common.{◌≡◌, ℕ, suc, ◌+◌, ◌-◌, ◌<◌, ◌≤◌, Bool, true, false, cond, not, ◌&&◌, ◌⊎◌, List, [], ◌∷◌, ◌++◌, length, get_or, take, drop, Some, None, Ok, Err, Option, Result, sym, refl, ap, ◌∙◌, subst, inl, inr, ⊎_elim, arith}
+use Rattle.std.proofs.Common.{◌≡◌, ℕ, suc, ◌+◌, ◌<◌, Bool, true, false, cond, ◌&&◌, List, [], ◌∷◌, ◌++◌, length, get_or, take, drop, Some, None, Ok, Option, sym, refl, ap, ◌∙◌, subst, ⊎_elim, arith}
 use Rattle.std.specs.Str.{bytes_eq}
 use Rattle.std.proofs.lemmas.Slice.Eq.{bytes_eq-Decides}
-use Rattle.std.proofs.lemmas.Bool.{false≢true, true≢false, cond-true, and_from}
+use Rattle.std.proofs.lemmas.Bool.{true≢false, cond-true, and_from}
 use Rattle.names.specs.Names.{property_name}
-use Rattle.names.specs.Paths.{root, path_text, stem}
+use Rattle.names.specs.Paths.{path_text, stem}
 use Rattle.names.proofs.PathLaws.{by-root, stem-root, path_starts}
-use Rattle.tree.specs.Places.{Bytes, Place, node_at, property_at}
-use Rattle.tree.specs.Trees.{Places, Tree, look}
+use Rattle.tree.specs.Places.{Bytes, node_at, property_at}
+use Rattle.tree.specs.Trees.{look}
 use Rattle.tree.proofs.Maps.{some-none, some_one}
-use Rattle.store.specs.Calls.{Meaning, closed, holds, there, has_node, value_at}
+use Rattle.store.specs.Calls.{closed, holds, there, has_node, value_at}
 use Rattle.tape.specs.declared.Mark.{Mark}
-use Rattle.tape.specs.declared.Spot.{Spot}
-use Rattle.tape.specs.Nodes.{Node, Property, step, ended, path_of, listed, spread, arranged, tree_from, meaning_of, shaped, apart, valid, Missing, further, property_in}
-use Rattle.tape.specs.Tapes.{nowhere, nth, properties_at, stem_at, Here, On, Located, placed}
+use Rattle.tape.specs.Nodes.{Node, Property, step, ended, path_of, listed, spread, tree_from, meaning_of, shaped, apart, valid, Missing, further, property_in}
+use Rattle.tape.specs.Tapes.{nth, properties_at, stem_at, On, placed}
 use Rattle.tape.proofs.Arranged.{seek, seek-none, seek-here, seek-past}
 use Rattle.tape.proofs.Around.{missing_all, node-here, property-look}
 use Rattle.tape.proofs.Descent.{at_index, stem_index, one_byte}

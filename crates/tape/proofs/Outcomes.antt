@@ -1,23 +1,23 @@
 -- What the writes answer, by what was found. Assumes nothing.
-use Rattle.std.proofs.Common.{◌≡◌, ℕ, suc, ◌+◌, ◌-◌, ◌<◌, ◌≤◌, Bool, true, false, cond, not, ◌&&◌, ◌||◌, eqb, ltb, leb, ◌⊎◌, List, [], ◌∷◌, ◌++◌, length, get_or, take, drop, set, is_some, Some, None, Ok, Err, Option, Result, sym, refl, ap, ◌∙◌, subst, inl, inr, ⊎_elim, arith}
+use Rattle.std.proofs.Common.{◌≡◌, ℕ, ◌+◌, ◌-◌, ◌<◌, ◌≤◌, true, false, cond, not, ◌&&◌, ◌||◌, eqb, ltb, leb, List, [], ◌∷◌, ◌++◌, length, take, drop, set, is_some, Some, None, Ok, Err, Option, Result, sym, refl, ap, ◌∙◌, subst, ⊎_elim, arith}
 use Rattle.std.specs.Str.{bytes_eq}
 use Rattle.std.proofs.lemmas.Slice.Eq.{bytes_eq-Decides}
-use Rattle.std.proofs.lemmas.List.{at_drop_more, at_drop_all, length-append, length-drop, length-take-le, length-set, nil_from_length, drop_more, take_more_set}
-use Rattle.std.proofs.lemmas.Bool.{and_parts, and_from, and_left, and_right, and_cases, or_from, or_left, or_right, or_cases, or_parts, not-true, not-false, leb-false, eqb-true, eqb-false, cases_lt, cases_eq, leb-true, le-leb, lt-leb, eq-eqb, ne_eqb, cond-true, cond-false, cases_Bool, true≢false, false≢true, not_from_false}
+use Rattle.std.proofs.lemmas.List.{at_drop_more, at_drop_all, length-append, length-take-le, length-set, nil_from_length, drop_more, take_more_set}
+use Rattle.std.proofs.lemmas.Bool.{and_parts, and_from, and_left, and_right, or_from, or_left, or_right, or_cases, or_parts, not-true, not-false, leb-false, eqb-true, eqb-false, cases_lt, cases_eq, leb-true, le-leb, lt-leb, eq-eqb, cond-true, cond-false, cases_Bool, true≢false}
 use Rattle.std.proofs.lemmas.Bool.Decides.{nat_tests}
 use Rattle.names.specs.Names.{node_name, property_name}
 use Rattle.names.specs.Paths.{root, path_text, stem, leaf, parent}
 use Rattle.names.proofs.NameLaws.{node_names, property_names}
-use Rattle.names.proofs.PathLaws.{by-root, path_splits, path_starts, parent_of, root_ends, stem-root, stem-other}
+use Rattle.names.proofs.PathLaws.{by-root, path_splits, parent_of, root_ends, stem-other}
 use Rattle.tree.specs.Maps.{find, Rises, worth}
 use Rattle.tree.specs.Places.{Bytes, Place, node_at, property_at, order}
-use Rattle.tree.specs.Trees.{Places, Tree, Sound, look, change, node_count, property_count, weigh, nodes, properties, weight, short_place}
+use Rattle.tree.specs.Trees.{Places, Tree, Sound, look, change, property_count, weigh, nodes, properties, weight}
 use Rattle.tree.proofs.Maps.{some-none, head-found, find-tail, total-upd}
 use Rattle.tree.proofs.Places.{place-order}
 use Rattle.store.specs.declared.Refusal.{Refusal}
-use Rattle.store.specs.declared.Refusal.TheVariants.{BadName, Absent, Present, InUse, Limit, Short, Closed}
-use Rattle.store.specs.Calls.{Meaning, closed, holds, Good, there, admitted, none, names, child_on, property_on, in_use, add_node, drop_node, set_property, drop_property, changed, settled}
-use Rattle.store.specs.Laws.{Writes, StoreLaws}
+use Rattle.store.specs.declared.Refusal.TheVariants.{Absent, Present, InUse, Limit}
+use Rattle.store.specs.Calls.{holds, Good, there, admitted, none, names, child_on, property_on, in_use, add_node, drop_node, set_property, drop_property, changed, settled}
+use Rattle.store.specs.Laws.{Writes}
 use Rattle.store.proofs.Keeps.{store_laws, in-names, look-same}
 use Rattle.tape.specs.declared.Counts.{Counts}
 use Rattle.tape.specs.Nodes.{Node, Property, height, step, ended, path_of, listed, tree_from, meaning_of, fits, shaped, apart, spread, valid, Missing, child_in, property_in}
@@ -25,7 +25,7 @@ use Rattle.tape.proofs.Arranged.{seek, seek-none, seek-here}
 use Rattle.tape.proofs.Around.{around, node-here}
 use Rattle.tape.proofs.Finds.{fit_parts, ended_join}
 use Rattle.tape.proofs.Splices.{dressed}
-use Rattle.tape.specs.Tapes.{nowhere, nth, properties_at, property_of, stem_at, Counted, aside, busy, bare_node, with_node, less_node, with_properties, less_property, node_fits, property_fits, node_weight, property_weight, properties_of, weight_of}
+use Rattle.tape.specs.Tapes.{nowhere, nth, properties_at, property_of, stem_at, Counted, aside, busy, bare_node, with_node, less_node, with_properties, less_property, node_fits, property_fits, node_weight, property_weight}
 use Rattle.tape.proofs.Becomes.{Becomes, renewed, after_is, node-added, node_removed, property-added, property_removed, property_replaced, depth_is, twice}
 use Rattle.tape.proofs.Looks.{open_is, look_missing, look-node, look-listed, path-of-stem, property-none, property-some}
 use Rattle.tape.proofs.Descent.{root-stem, at_index, stem_index, descend_some, descend_none, one_byte}

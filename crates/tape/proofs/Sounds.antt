@@ -1,8 +1,8 @@
 -- The test of a tree tells whether it is one by the rules. Assumes nothing.
-use Rattle.std.proofs.Common.{◌≡◌, ℕ, ◌+◌, ◌^◌, ◌<◌, ◌≤◌, Bool, true, false, cond, not, ◌&&◌, eqb, leb, List, [], ◌∷◌, ◌++◌, length, Some, None, Option, Ordering, Less, Equal, Greater, sym, refl, ap, ◌∙◌, subst, arith}
+use Rattle.std.proofs.Common.{◌≡◌, ℕ, ◌+◌, ◌^◌, Bool, true, List, [], ◌∷◌, length, Some, None, Option, Ordering, Less, Equal, Greater, sym, refl, ap, ◌∙◌, subst, arith}
 use Rattle.std.specs.Ordering.{match_ordering as by_order}
 use Rattle.std.proofs.lemmas.List.{nil_from_length}
-use Rattle.std.proofs.lemmas.Bool.{true≢false, false≢true, and_parts, and_from, eqb-true, eq-eqb, leb-true, le-leb}
+use Rattle.std.proofs.lemmas.Bool.{false≢true, and_parts, and_from, eqb-true, eq-eqb, leb-true, le-leb}
 use Rattle.names.specs.Names.{each}
 use Rattle.names.specs.Paths.{root}
 use Rattle.tree.specs.Maps.{find, Rises}
@@ -12,7 +12,7 @@ use Rattle.tree.proofs.Maps.{some-none, some_one, head-found, find-tail}
 use Rattle.tree.proofs.Places.{place-order}
 use Rattle.tape.specs.Nodes.{Node, bare_on, blank, sound_place, sound_tree, tree_from, sound_nodes, shaped, spread, apart, valid, meaning_of}
 use Rattle.tape.proofs.Arranged.{arranged-rises}
-use Rattle.store.specs.Calls.{Meaning, Good}
+use Rattle.store.specs.Calls.{Good}
 
 found-each : (p : Place × Bytes → Bool) (es : Places) (k : Place) (v : Bytes) → each p es ≡ true → find order es k ≡ Some v → p (k, v) ≡ true
 unfolding find

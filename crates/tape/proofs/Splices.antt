@@ -1,19 +1,14 @@
 -- A node or a property put among others, or taken out. Assumes nothing.
-use Rattle.std.proofs.Common.{◌≡◌, ℕ, suc, ◌+◌, ◌-◌, ◌<◌, ◌≤◌, Bool, true, false, cond, not, ◌&&◌, eqb, leb, List, [], ◌∷◌, ◌++◌, length, get_or, take, drop, Some, None, Option, sym, refl, ap, ◌∙◌, subst, append_assoc, arith}
-use Rattle.std.proofs.lemmas.List.{take-append-drop, drop_more}
-use Rattle.std.proofs.lemmas.Bool.{and_parts, and_from, leb-true, le-leb, cond-false, ne_eqb}
+use Rattle.std.proofs.Common.{◌≡◌, ℕ, ◌+◌, ◌-◌, ◌≤◌, true, cond, ◌&&◌, eqb, List, [], ◌∷◌, ◌++◌, length, refl, ap, ◌∙◌, subst, arith}
+use Rattle.std.proofs.lemmas.Bool.{and_parts, and_from, leb-true, le-leb}
 use Rattle.names.specs.Names.{node_name}
-use Rattle.names.specs.Paths.{plain}
 use Rattle.names.proofs.NameLaws.{node_names}
-use Rattle.tree.specs.Maps.{upd}
-use Rattle.tree.specs.Places.{Bytes, Place, node_at, property_at, order}
-use Rattle.tree.specs.Trees.{Places, Tree, Sound, change}
-use Rattle.tape.specs.Nodes.{Node, Property, cut, height, step, ended, path_of, listed, spread, arranged, tree_from, fits, fitting, shaped, apart}
+use Rattle.tree.specs.Places.{Bytes, node_at, property_at}
+use Rattle.tape.specs.Nodes.{Node, Property, cut, height, step, ended, path_of, listed, spread, fits, fitting, shaped}
 use Rattle.tape.specs.Tapes.{aside}
-use Rattle.tape.proofs.Arranged.{seek, seek-none, seek-past, seek_join, seek-parts, arranged-insert, arranged-remove, arranged_replace, apart_more, apart-less, apart_other}
-use Rattle.tape.proofs.Around.{root-parts, around, fits-nil, fits-back, shaped-front, height-none}
-use Rattle.tape.proofs.Finds.{fit_parts, fit-step, ended_join, spread_join}
-use Rattle.tape.proofs.Stems.{cut_all, cut_join, step_cut, step_is, height-child}
+use Rattle.tape.proofs.Around.{root-parts}
+use Rattle.tape.proofs.Finds.{fit_parts, fit-step, spread_join}
+use Rattle.tape.proofs.Stems.{cut_all, cut_join, step_is}
 
 fits_join : (s : Bytes) (xs ys : List Node) → fits (height s) xs ≡ true → fits (height (ended s xs)) ys ≡ true → fits (height s) (xs ++ ys) ≡ true
 unfolding ended fits

@@ -1,17 +1,16 @@
 -- What the limits count, on the list and on the tree. Assumes nothing.
-use Rattle.std.proofs.Common.{◌≡◌, ℕ, suc, ◌+◌, ◌-◌, ◌<◌, ◌≤◌, Bool, true, false, cond, not, ◌&&◌, ◌||◌, eqb, leb, List, [], ◌∷◌, ◌++◌, length, get_or, take, drop, Some, None, Option, sym, refl, ap, ◌∙◌, subst, arith}
-use Rattle.std.proofs.lemmas.Bool.{and_parts, and_from, leb-true, le-leb, cond-false, ne_eqb}
-use Rattle.names.specs.Names.{node_name}
-use Rattle.names.specs.Paths.{root, leaf, plain}
+use Rattle.std.proofs.Common.{◌≡◌, ℕ, ◌+◌, ◌-◌, ◌≤◌, true, ◌&&◌, leb, List, [], ◌∷◌, ◌++◌, length, Some, None, sym, refl, ap, ◌∙◌, subst, arith}
+use Rattle.std.proofs.lemmas.Bool.{and_parts, leb-true}
+use Rattle.names.specs.Paths.{leaf}
 use Rattle.names.proofs.NameLaws.{node_names}
 use Rattle.names.proofs.PathLaws.{behind-last, root_ends}
-use Rattle.tree.specs.Maps.{find, upd, worth, total}
-use Rattle.tree.specs.Places.{Bytes, Place, node_at, property_at, order}
-use Rattle.tree.specs.Trees.{Places, Tree, Sound, look, change, node_count, property_count, weigh, nodes, properties, weight, roomy, short_place}
+use Rattle.tree.specs.Maps.{worth, total}
+use Rattle.tree.specs.Places.{Bytes, Place, node_at, property_at}
+use Rattle.tree.specs.Trees.{Places, Tree, look, change, node_count, property_count, weigh, nodes, properties, weight, roomy, short_place}
 use Rattle.tree.proofs.Maps.{total-upd}
 use Rattle.tree.proofs.Places.{place-order}
 use Rattle.store.specs.Calls.{admitted}
-use Rattle.tape.specs.Nodes.{Node, Property, cut, height, step, path_of, listed, spread, arranged, tree_from, fits, shaped, apart, valid, sound_nodes}
+use Rattle.tape.specs.Nodes.{Node, Property, cut, height, step, path_of, listed, spread, tree_from, fits, shaped, valid}
 use Rattle.tape.specs.Tapes.{node_weight, property_weight, properties_weight, weight_of, properties_of}
 use Rattle.tape.proofs.Arranged.{total-arranged}
 use Rattle.tape.proofs.Around.{root-parts, fits-nil}

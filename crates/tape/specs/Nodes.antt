@@ -1,5 +1,5 @@
 -- A tree as a list of nodes, each before all that is below it: what a store keeps, in any order of siblings. Assumes nothing.
-use Rattle.std.specs.Prelude.{◌≡◌, ℕ, suc, ◌+◌, ◌-◌, ◌^◌, Bool, true, false, cond, not, ◌&&◌, ◌||◌, List, [], ◌∷◌, ◌++◌, length, is_some, Some, None, Option, ◌==◌, ◌≢◌, nat_le}
+use Rattle.std.specs.Prelude.{ℕ, suc, ◌+◌, ◌-◌, ◌^◌, Bool, true, false, cond, not, ◌&&◌, List, [], ◌∷◌, ◌++◌, length, is_some, Some, None, Option, ◌==◌, ◌≢◌, nat_le}
 use Rattle.std.specs.Str.{bytes_eq}
 use Rattle.names.specs.Names.{each, node_name}
 use Rattle.names.specs.Paths.{root}

@@ -1,5 +1,6 @@
 // What the stores share: a tape of nodes, each before all that is below it, and the calls on it.
 #![tactic(auto)]
+
 ghost use Rattle.std.specs.Prelude.{◌≡◌, ℕ, ◌+◌, ◌<◌, ◌≤◌, true, List, ◌∷◌, length, slice_set};
 ghost use Rattle.tape.specs.declared.Mark.{Mark};
 ghost use Rattle.tape.specs.declared.Spot.{Spot};

@@ -1,4 +1,4 @@
-use Rattle.std.proofs.Common.{◌≡◌, ◌<◌, true, false, length, None, sym, refl, ap, ◌∙◌, arith}
+use Rattle.std.proofs.Common.{◌<◌, length, None, sym, ◌∙◌, arith}
 use Rattle.names.specs.Names.{node_name}
 use Rattle.store.specs.Calls.{child_on}
 use Rattle.nexts.specs.Kids.{shown_name}
@@ -14,39 +14,39 @@ returns-in-None g c =
     let ns = g.T.Tape.nodes t in
     let boot = g.T.Tape.boot t in
     let h : 0 < length ns = omega (arith, c.counts.ensures.nodes, c.if-counts-eq0.false) in
-    let p = sym c.if-not-is-path.ensures in
-    let s = sym c.if-not-starts-children.ensures in
+    let p = sym c.if-not-is_path.ensures in
+    let s = sym c.if-not-starts_children.ensures in
     record { name = sym (next-absent node_name child_on boot ns h c.args.path.now c.args.after.now p s c.args.room (look_missing boot ns (g.T.Tape.sound t) c.args.path.now p c.in-None.ensures None)); held = tt }
 
-pub returns-then-room-lt-NAME-BUFFER : goal.returns-then-room-lt-NAME-BUFFER
-returns-then-room-lt-NAME-BUFFER g c =
+pub returns-then-room-lt-NAME_BUFFER : goal.returns-then-room-lt-NAME_BUFFER
+returns-then-room-lt-NAME_BUFFER g c =
     let t = c.args.t.now in
     let ns = g.T.Tape.nodes t in
     let boot = g.T.Tape.boot t in
     let h : 0 < length ns = omega (arith, c.counts.ensures.nodes, c.if-counts-eq0.false) in
-    let p = sym c.if-not-is-path.ensures in
-    let s = sym c.if-not-starts-children.ensures in
+    let p = sym c.if-not-is_path.ensures in
+    let s = sym c.if-not-starts_children.ensures in
     let f = c.in-Some.ensures in
     let e = look-node boot ns (g.T.Tape.sound t) c.args.path.now p _ f.0.inside f.1 in
-    record { name = sym (next-short node_name child_on boot ns h c.args.path.now c.args.after.now p s c.args.room e c.if-room-lt-NAME-BUFFER.true); held = tt }
+    record { name = sym (next-short node_name child_on boot ns h c.args.path.now c.args.after.now p s c.args.room e c.if-room-lt-NAME_BUFFER.true); held = tt }
 
-pub returns-else-room-lt-NAME-BUFFER : goal.returns-else-room-lt-NAME-BUFFER
-returns-else-room-lt-NAME-BUFFER g c =
+pub returns-else-room-lt-NAME_BUFFER : goal.returns-else-room-lt-NAME_BUFFER
+returns-else-room-lt-NAME_BUFFER g c =
     let t = c.args.t.now in
     let ns = g.T.Tape.nodes t in
     let boot = g.T.Tape.boot t in
     let h : 0 < length ns = omega (arith, c.counts.ensures.nodes, c.if-counts-eq0.false) in
-    let p = sym c.if-not-is-path.ensures in
-    let s = sym c.if-not-starts-children.ensures in
+    let p = sym c.if-not-is_path.ensures in
+    let s = sym c.if-not-starts_children.ensures in
     let f = c.in-Some.ensures in
     let e = look-node boot ns (g.T.Tape.sound t) c.args.path.now p _ f.0.inside f.1 in
-    let q = c.least-child.ensures in
+    let q = c.least_child.ensures in
     let same = kids-same boot ns (g.T.Tape.sound t) c.args.path.now p c.in-Some.at.node f.0.inside f.1 c.args.after.now in
     record {
-      name = shown_ok c.least-child.result ∙ sym (next-is node_name child_on boot ns h c.args.path.now c.args.after.now p s c.args.room e c.if-room-lt-NAME-BUFFER.false (shown_name c.least-child.result) (q ∙ same));
-      held = held_by c.least-child.result c.args.room (λ x z.
+      name = shown_ok c.least_child.result ∙ sym (next-is node_name child_on boot ns h c.args.path.now c.args.after.now p s c.args.room e c.if-room-lt-NAME_BUFFER.false (shown_name c.least_child.result) (q ∙ same));
+      held = held_by c.least_child.result c.args.room (λ x z.
           let a = least-among c.args.after.now x _ (sym q ∙ z) in
           let n = node_names x (kids-named boot ns (g.T.Tape.sound t) c.args.path.now p c.in-Some.at.node f.0.inside f.1 x a) in
-          let low = c.if-room-lt-NAME-BUFFER.false in
+          let low = c.if-room-lt-NAME_BUFFER.false in
           omega (arith, n.2));
     }

@@ -1,10 +1,10 @@
-use Rattle.std.proofs.Common.{◌≡◌, ◌+◌, ◌<◌, ◌≤◌, [], ◌++◌, length, drop, sym, refl, ap, ◌∙◌, arith}
+use Rattle.std.proofs.Common.{◌+◌, ◌<◌, ◌++◌, length, drop, sym, ap, ◌∙◌, arith}
 use Rattle.store.specs.Calls.{least_after}
 use Rattle.tape.specs.Tapes.{nth}
 use Rattle.nexts.specs.Kids.{kids, shown_name}
-use Rattle.nexts.proofs.Kin.{front, Behind, least-front, taken, kept, kids-end, kids-left, kids-child, kids-past, Turn, turn_taken, turn_kept, turn_past, turned}
+use Rattle.nexts.proofs.Kin.{front, least-front, kids-end, kids-left, kids-child, kids-past, Turn, turn_taken, turn_kept, turn_past, turned}
 use Rattle.nexts.proofs.least_child.Goals as goal
-use Rattle.nexts.proofs.least_child.Goals.{then-head-top-eq1+then-is-better, then-head-top-eq1+else-is-better, else-head-top-eq1}
+use Rattle.nexts.proofs.least_child.Goals.{then-head-top-eq1+then-is_better, then-head-top-eq1+else-is_better, else-head-top-eq1}
 
 pub returns-then-head-top : goal.returns-then-head-top
 returns-then-head-top g c =
@@ -43,8 +43,8 @@ loop-at-preserved g c =
     let b = c.loop-at.invariant.1 in
     let turn : Turn n o o' here rest =
     elim c.if-head-top-eq1.branch [
-      | then-head-top-eq1+then-is-better w ↦ turn_taken n o o' here rest (nth ns k).name w.name-name.result.now w.name-name.ensures (ap shown_name w.best-is) w.if-is-better.ensures (kids-child ns m k l (omega (arith, c.head-head.ensures.depth, c.if-head-top.false, w.if-head-top-eq1.true)))
-      | then-head-top-eq1+else-is-better w ↦ turn_kept n o o' here rest (nth ns k).name w.name-name.result.now w.name-name.ensures (ap shown_name w.best-is) w.if-is-better.ensures (kids-child ns m k l (omega (arith, c.head-head.ensures.depth, c.if-head-top.false, w.if-head-top-eq1.true))) b
+      | then-head-top-eq1+then-is_better w ↦ turn_taken n o o' here rest (nth ns k).name w.name-name.result.now w.name-name.ensures (ap shown_name w.best-is) w.if-is_better.ensures (kids-child ns m k l (omega (arith, c.head-head.ensures.depth, c.if-head-top.false, w.if-head-top-eq1.true)))
+      | then-head-top-eq1+else-is_better w ↦ turn_kept n o o' here rest (nth ns k).name w.name-name.result.now w.name-name.ensures (ap shown_name w.best-is) w.if-is_better.ensures (kids-child ns m k l (omega (arith, c.head-head.ensures.depth, c.if-head-top.false, w.if-head-top-eq1.true))) b
       | else-head-top-eq1 w ↦ turn_past n o o' here rest (ap shown_name w.best-is) (kids-past ns m k l (omega (arith, c.head-head.ensures.depth, c.if-head-top.false)) (λ z. w.if-head-top-eq1.false (omega (arith, z, c.head-head.ensures.depth)))) b
     ] in
     let d = turned n o o' here rest turn in

@@ -1,10 +1,10 @@
-use Rattle.std.proofs.Common.{◌≡◌, ℕ, ◌+◌, ◌-◌, ◌<◌, ◌≤◌, true, false, [], ◌++◌, length, get_or, drop, sym, refl, ap, ◌∙◌, subst, arith}
+use Rattle.std.proofs.Common.{◌≡◌, ◌+◌, ◌<◌, ◌≤◌, [], ◌++◌, length, get_or, drop, sym, refl, ap, ◌∙◌, subst, arith}
 use Rattle.store.specs.Calls.{least_after}
 use Rattle.tape.specs.Tapes.{properties_at}
 use Rattle.nexts.specs.Kids.{keys, shown_name}
-use Rattle.nexts.proofs.Kin.{front, Behind, least-front, keys-end, keys-more, Turn, turn_taken, turn_kept, turned}
+use Rattle.nexts.proofs.Kin.{front, least-front, keys-end, keys-more, Turn, turn_taken, turn_kept, turned}
 use Rattle.nexts.proofs.least_property.Goals as goal
-use Rattle.nexts.proofs.least_property.Goals.{then-is-better, else-is-better}
+use Rattle.nexts.proofs.least_property.Goals.{then-is_better, else-is_better}
 
 pub loop-m-init : goal.loop-m-init
 loop-m-init g c =
@@ -15,8 +15,8 @@ loop-m-init g c =
     let b = ap (λ m. m.number) f ∙ (g.T.Tape.numbered t i 0).1 in
     (refl, f ∙ (λ k. g.T.Tape.mark t (sym a k) (sym b k)), tt, ap (λ j. least_after c.args.after.now (keys (drop j (properties_at (g.T.Tape.nodes t) c.head-head.result.first.node)))) b)
 
-pub property-name-name-requires : goal.property-name-name-requires
-property-name-name-requires g c =
+pub property_name-name-requires : goal.property_name-name-requires
+property_name-name-requires g c =
     let t = c.args.t.now in
     let a = ap (λ m. m.node) c.head-head.ensures.first ∙ (g.T.Tape.numbered t c.args.at.node 0).0 in
     let e = c.loop-m.invariant.0 ∙ a in
@@ -47,19 +47,19 @@ loop-m-preserved g c =
     let k = c.loop-m.m.number in
     let l : k < length xs = subst (λ i. k < length (properties_at ns i)) (sym a) (omega (arith, c.head-head.ensures.properties, c.loop-m-test.true)) in
     let o = shown_name c.loop-m.best in
-    let o' = shown_name c.if-is-better.best in
+    let o' = shown_name c.if-is_better.best in
     let x = (get_or xs k ([], [])).0 in
-    let y = c.property-name-name.result.now in
-    let yx : y ≡ x = c.property-name-name.ensures ∙ ap (λ i. (get_or (properties_at ns i) k ([], [])).0) c.loop-m.invariant.0 in
+    let y = c.property_name-name.result.now in
+    let yx : y ≡ x = c.property_name-name.ensures ∙ ap (λ i. (get_or (properties_at ns i) k ([], [])).0) c.loop-m.invariant.0 in
     let u = c.behind-m.ensures in
     let nn = ap (λ m. m.node) u ∙ (g.T.Tape.numbered t c.loop-m.m.node (k + 1)).0 in
     let j = ap (λ m. m.number) u ∙ (g.T.Tape.numbered t c.loop-m.m.node (k + 1)).1 in
     let here = keys (drop k xs) in
     let rest = keys (drop (k + 1) xs) in
     let turn : Turn n o o' here rest =
-    elim c.if-is-better.branch [
-      | then-is-better w ↦ turn_taken n o o' here rest x y yx (ap shown_name w.best-is) w.if-is-better.ensures (keys-more xs k l)
-      | else-is-better w ↦ turn_kept n o o' here rest x y yx (ap shown_name w.best-is) w.if-is-better.ensures (keys-more xs k l) c.loop-m.invariant.2
+    elim c.if-is_better.branch [
+      | then-is_better w ↦ turn_taken n o o' here rest x y yx (ap shown_name w.best-is) w.if-is_better.ensures (keys-more xs k l)
+      | else-is_better w ↦ turn_kept n o o' here rest x y yx (ap shown_name w.best-is) w.if-is_better.ensures (keys-more xs k l) c.loop-m.invariant.2
     ] in
     let d = turned n o o' here rest turn in
     (nn ∙ c.loop-m.invariant.0, u ∙ (λ z. g.T.Tape.mark t (sym nn z) (sym j z)), d.0, ap (λ i. least_after n (front o' ++ keys (drop i xs))) j ∙ d.1 ∙ c.loop-m.invariant.3)

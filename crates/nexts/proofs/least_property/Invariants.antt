@@ -1,4 +1,4 @@
-use Rattle.std.proofs.Common.{◌≡◌, ◌-◌, ◌++◌, length, drop}
+use Rattle.std.proofs.Common.{◌≡◌, ◌-◌, ◌++◌, drop}
 use Rattle.store.specs.Calls.{least_after}
 use Rattle.tape.specs.Tapes.{properties_at}
 use Rattle.nexts.specs.Kids.{keys, shown_name}

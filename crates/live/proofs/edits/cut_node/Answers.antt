@@ -1,18 +1,16 @@
-use Rattle.std.proofs.Common.{◌≡◌, ℕ, ◌+◌, ◌-◌, ◌*◌, ◌<◌, ◌≤◌, true, List, [], ◌∷◌, ◌++◌, length, get_or, take, drop, set, sym, refl, ap, ◌∙◌, subst, arith, rules}
-use Rattle.std.proofs.lemmas.List.{nil_from_length, length-set, length-take-le}
-use Rattle.tape.specs.Nodes.{Node, valid}
-use Rattle.tape.specs.Tapes.{nth, properties_at, property_of, bare_node, with_node, less_node, with_properties, less_property, node_weight, property_weight, weight_of}
+use Rattle.std.proofs.Common.{◌≡◌, ◌-◌, ◌<◌, ◌≤◌, length, get_or, sym, refl, ap, ◌∙◌, arith, rules}
+use Rattle.std.proofs.lemmas.List.{nil_from_length}
+use Rattle.tape.specs.Tapes.{properties_at, less_node, node_weight, weight_of}
 use Rattle.live.specs.declared.memory.NodeRecord.{NodeRecord}
-use Rattle.live.specs.declared.memory.PropertyRecord.{PropertyRecord}
-use Rattle.live.specs.Records.{held, row_of, cell_of, cells_of, bytes_of, property_bytes, rows_of}
-use Rattle.live.specs.Splices.{spliced_in, spliced_out}
-use Rattle.live.proofs.Kept.{count-is, size_is, cells_are, bounds, spot_row, spot_in_lem, spot-at, spot-property, spot-low, spot_few, at-short, all-cells, mark_cell, mark-in, mark-at, mark-property, mark-low, mark-value, on-short, cells-short}
+use Rattle.live.specs.Records.{held}
+use Rattle.live.specs.Splices.{spliced_out}
+use Rattle.live.proofs.Kept.{count-is, size_is, spot_row, spot_in_lem, spot-at, spot-low, at-short}
 use Rattle.live.proofs.Fitted.{room-parts, room-from}
 use Rattle.live.proofs.Moved.{renew, rows-less, cells-less, bytes-less, weight-less}
 use Rattle.live.proofs.edits.cut_node.Goals as goal
 
-pub offset-bounds-m-s : goal.offset-bounds-m-s
-offset-bounds-m-s c =
+pub offset_bounds-m-s : goal.offset_bounds-m-s
+offset_bounds-m-s c =
     let m = c.args.m.now in
     let w = c.requires.whole in
     let ns = held m in
@@ -43,8 +41,8 @@ bounds-m-s c =
     let low = spot-low m w s c.requires.here in
     b.0
 
-pub remove-slice-requires : goal.remove-slice-requires
-remove-slice-requires c =
+pub remove_slice-requires : goal.remove_slice-requires
+remove_slice-requires c =
     let m = c.args.m.now in
     let w = c.requires.whole in
     let ns = held m in
@@ -57,10 +55,10 @@ remove-slice-requires c =
     let b = spot_in_lem m w s c.requires.here in
     let at = spot-at m w s c.requires.here in
     let low = spot-low m w s c.requires.here in
-    record { order = omega (arith, h, count-is m w); room = w.nodes_in_lem }
+    record { order = omega (arith, h, count-is m w); room = w.nodes_in }
 
-pub remove-slice-requires-2 : goal.remove-slice-requires-2
-remove-slice-requires-2 c =
+pub remove_slice-requires-2 : goal.remove_slice-requires-2
+remove_slice-requires-2 c =
     let m = c.args.m.now in
     let w = c.requires.whole in
     let ns = held m in
@@ -73,10 +71,10 @@ remove-slice-requires-2 c =
     let b = spot_in_lem m w s c.requires.here in
     let at = spot-at m w s c.requires.here in
     let low = spot-low m w s c.requires.here in
-    record { order = omega (arith, rn, at, at-short ns i h, size_is m w); room = w.size-in }
+    record { order = omega (arith, rn, at, at-short ns i h, size_is m w); room = w.size_in }
 
-pub node-weight-requires : goal.node-weight-requires
-node-weight-requires c =
+pub node_weight-requires : goal.node_weight-requires
+node_weight-requires c =
     let m = c.args.m.now in
     let w = c.requires.whole in
     let ns = held m in
@@ -91,8 +89,8 @@ node-weight-requires c =
     let low = spot-low m w s c.requires.here in
     omega (arith, rn, low)
 
-pub overflow-sub-m-2 : goal.overflow-sub-m-2
-overflow-sub-m-2 c =
+pub overflow_sub-m-2 : goal.overflow_sub-m-2
+overflow_sub-m-2 c =
     let m = c.args.m.now in
     let w = c.requires.whole in
     let ns = held m in
@@ -107,12 +105,12 @@ overflow-sub-m-2 c =
     let low = spot-low m w s c.requires.here in
     let bare = nil_from_length (properties_at ns i) c.requires.bare in
     let wl = weight-less ns i h bare in
-    let x = c.node-weight.ensures ∙ ap node_weight rn in
-    let le : c.node-weight.result ≤ m.counts.weight = omega (arith, x, wl, w.weight) in
+    let x = c.node_weight.ensures ∙ ap node_weight rn in
+    let le : c.node_weight.result ≤ m.counts.weight = omega (arith, x, wl, w.weight) in
     search rules
 
-pub overflow-sub-m-3 : goal.overflow-sub-m-3
-overflow-sub-m-3 c =
+pub overflow_sub-m-3 : goal.overflow_sub-m-3
+overflow_sub-m-3 c =
     let m = c.args.m.now in
     let w = c.requires.whole in
     let ns = held m in
@@ -149,20 +147,20 @@ returns c =
     let ms = less_node ns i in
     let open' : 0 < length ns = omega (arith, h) in
     let room = room-parts m w open' in
-    let kn = c.remove-slice.auto.xs in
-    let kp = c.remove-slice-2.auto.xs in
-    let x = c.node-weight.ensures ∙ ap node_weight rn in
+    let kn = c.remove_slice.auto.xs in
+    let kp = c.remove_slice-2.auto.xs in
+    let x = c.node_weight.ensures ∙ ap node_weight rn in
     let back = sym w.bytes in
-    let xs = c.remove-slice.new.xs in
-    let ys = c.remove-slice-2.new.xs in
-    let in_rows : m.counts.nodes - 1 ≤ length xs = omega (arith, w.nodes_in_lem, kn) in
-    let in-pool : m.size - (get_or m.nodes.now i e).name ≤ length ys = omega (arith, w.size-in, kp) in
+    let xs = c.remove_slice.new.xs in
+    let ys = c.remove_slice-2.new.xs in
+    let in_rows : m.counts.nodes - 1 ≤ length xs = omega (arith, w.nodes_in, kn) in
+    let in-pool : m.size - (get_or m.nodes.now i e).name ≤ length ys = omega (arith, w.size_in, kp) in
     let l1 : 256 ≤ length xs = omega (arith, room.0, kn) in
     let l3 : 24576 ≤ length ys = omega (arith, room.2, kp) in
-    let wt : m.counts.weight - c.node-weight.result ≡ weight_of ms = omega (arith, x, wl, w.weight) in
+    let wt : m.counts.weight - c.node_weight.result ≡ weight_of ms = omega (arith, x, wl, w.weight) in
     renew _ ms
-    (c.remove-slice.ensures ∙ ap (λ t. spliced_out t i 1) (sym w.rows) ∙ rows-less ns i h)
+    (c.remove_slice.ensures ∙ ap (λ t. spliced_out t i 1) (sym w.rows) ∙ rows-less ns i h)
     (sym w.cells ∙ sym (cells-less ns i h bare))
-    (c.remove-slice-2.ensures ∙ (λ j. spliced_out (back j) (at j) (rn j)) ∙ bytes-less ns i h bare)
-    m.boot refl in_rows w.properties_in_lem in-pool wt
+    (c.remove_slice-2.ensures ∙ (λ j. spliced_out (back j) (at j) (rn j)) ∙ bytes-less ns i h bare)
+    m.boot refl in_rows w.properties_in in-pool wt
     (room-from (m.counts.nodes - 1) (length xs) _ (length ys) l1 room.1 l3) c.requires.sound

@@ -1,18 +1,17 @@
-use Rattle.std.proofs.Common.{◌≡◌, ℕ, ◌+◌, ◌-◌, ◌*◌, ◌<◌, ◌≤◌, true, List, [], ◌∷◌, ◌++◌, length, get_or, take, drop, set, sym, refl, ap, ◌∙◌, subst, arith, rules}
-use Rattle.std.proofs.lemmas.List.{nil_from_length, length-set, length-take-le}
-use Rattle.tape.specs.Nodes.{Node, valid}
-use Rattle.tape.specs.Tapes.{nth, properties_at, property_of, bare_node, with_node, less_node, with_properties, less_property, node_weight, property_weight, weight_of}
+use Rattle.std.proofs.Common.{◌≡◌, ◌+◌, ◌-◌, ◌<◌, ◌≤◌, length, get_or, take, set, sym, refl, ap, ◌∙◌, subst, arith, rules}
+use Rattle.std.proofs.lemmas.List.{length-set}
+use Rattle.tape.specs.Tapes.{nth, properties_at, property_of, with_properties, less_property, property_weight, weight_of}
 use Rattle.live.specs.declared.memory.NodeRecord.{NodeRecord}
 use Rattle.live.specs.declared.memory.PropertyRecord.{PropertyRecord}
-use Rattle.live.specs.Records.{held, row_of, cell_of, cells_of, bytes_of, property_bytes, rows_of}
-use Rattle.live.specs.Splices.{spliced_in, spliced_out}
-use Rattle.live.proofs.Kept.{count-is, size_is, cells_are, bounds, spot_row, spot_in_lem, spot-at, spot-property, spot-low, spot_few, at-short, all-cells, mark_cell, mark-in, mark-at, mark-property, mark-low, mark-value, on-short, cells-short, front_long, around_it, part-is}
+use Rattle.live.specs.Records.{held, cell_of, cells_of, bytes_of, property_bytes, rows_of}
+use Rattle.live.specs.Splices.{spliced_out}
+use Rattle.live.proofs.Kept.{count-is, size_is, cells_are, bounds, spot_row, spot_in_lem, spot-at, spot-property, spot-low, spot_few, mark_cell, mark-in, mark-at, mark-property, on-short, cells-short}
 use Rattle.live.proofs.Fitted.{room-parts, room-from}
 use Rattle.live.proofs.Moved.{renew, take-set-in, rows_other, row_cut, cells_cut, bytes_cut, cut-sizes, weight-cut}
 use Rattle.live.proofs.edits.cut_property.Goals as goal
 
-pub offset-bounds-m-s : goal.offset-bounds-m-s
-offset-bounds-m-s c =
+pub offset_bounds-m-s : goal.offset_bounds-m-s
+offset_bounds-m-s c =
     let m = c.args.m.now in
     let w = c.requires.whole in
     let ns = held m in
@@ -53,8 +52,8 @@ bounds-m-s c =
     let ps = properties_at ns i in
     b.0
 
-pub offset-bounds-m-k : goal.offset-bounds-m-k
-offset-bounds-m-k c =
+pub offset_bounds-m-k : goal.offset_bounds-m-k
+offset_bounds-m-k c =
     let m = c.args.m.now in
     let w = c.requires.whole in
     let ns = held m in
@@ -123,8 +122,8 @@ bounds-m-k c =
     let wc = weight-cut ns i h q l in
     kb.0
 
-pub overflow-add-n : goal.overflow-add-n
-overflow-add-n c =
+pub overflow_add-n : goal.overflow_add-n
+overflow_add-n c =
     let m = c.args.m.now in
     let w = c.requires.whole in
     let ns = held m in
@@ -158,8 +157,8 @@ overflow-add-n c =
     let wc = weight-cut ns i h q l in
     omega (arith, cn, cv, os, size_is m w, (bounds m w).2)
 
-pub remove-slice-requires : goal.remove-slice-requires
-remove-slice-requires c =
+pub remove_slice-requires : goal.remove_slice-requires
+remove_slice-requires c =
     let m = c.args.m.now in
     let w = c.requires.whole in
     let ns = held m in
@@ -191,10 +190,10 @@ remove-slice-requires c =
     let os = on-short ns i h q l in
     let sz = cut-sizes ns i h q l in
     let wc = weight-cut ns i h q l in
-    record { order = omega (arith, kpr, cells-short ns i h q l, cells_are m w); room = w.properties_in_lem }
+    record { order = omega (arith, kpr, cells-short ns i h q l, cells_are m w); room = w.properties_in }
 
-pub remove-slice-requires-2 : goal.remove-slice-requires-2
-remove-slice-requires-2 c =
+pub remove_slice-requires-2 : goal.remove_slice-requires-2
+remove_slice-requires-2 c =
     let m = c.args.m.now in
     let w = c.requires.whole in
     let ns = held m in
@@ -226,10 +225,10 @@ remove-slice-requires-2 c =
     let os = on-short ns i h q l in
     let sz = cut-sizes ns i h q l in
     let wc = weight-cut ns i h q l in
-    record { order = omega (arith, kat, cn, cv, os, size_is m w); room = w.size-in }
+    record { order = omega (arith, kat, cn, cv, os, size_is m w); room = w.size_in }
 
-pub overflow-sub-m : goal.overflow-sub-m
-overflow-sub-m c =
+pub overflow_sub-m : goal.overflow_sub-m
+overflow_sub-m c =
     let m = c.args.m.now in
     let w = c.requires.whole in
     let ns = held m in
@@ -263,8 +262,8 @@ overflow-sub-m c =
     let wc = weight-cut ns i h q l in
     omega (arith, rp, sz.0)
 
-pub overflow-sub-m-2 : goal.overflow-sub-m-2
-overflow-sub-m-2 c =
+pub overflow_sub-m-2 : goal.overflow_sub-m-2
+overflow_sub-m-2 c =
     let m = c.args.m.now in
     let w = c.requires.whole in
     let ns = held m in
@@ -298,8 +297,8 @@ overflow-sub-m-2 c =
     let wc = weight-cut ns i h q l in
     omega (arith, rb, cn, cv, sz.1)
 
-pub offset-bounds-m-s-2 : goal.offset-bounds-m-s-2
-offset-bounds-m-s-2 c =
+pub offset_bounds-m-s-2 : goal.offset_bounds-m-s-2
+offset_bounds-m-s-2 c =
     let m = c.args.m.now in
     let w = c.requires.whole in
     let ns = held m in
@@ -340,8 +339,8 @@ bounds-m-s-2 c =
     let ps = properties_at ns i in
     b.0
 
-pub overflow-sub-m-3 : goal.overflow-sub-m-3
-overflow-sub-m-3 c =
+pub overflow_sub-m-3 : goal.overflow_sub-m-3
+overflow_sub-m-3 c =
     let m = c.args.m.now in
     let w = c.requires.whole in
     let ns = held m in
@@ -375,8 +374,8 @@ overflow-sub-m-3 c =
     let wc = weight-cut ns i h q l in
     omega (arith, cells-short ns i h q l, cells_are m w)
 
-pub property-weight-requires : goal.property-weight-requires
-property-weight-requires c =
+pub property_weight-requires : goal.property_weight-requires
+property_weight-requires c =
     let m = c.args.m.now in
     let w = c.requires.whole in
     let ns = held m in
@@ -410,8 +409,8 @@ property-weight-requires c =
     let wc = weight-cut ns i h q l in
     (omega (arith, cn, os, size_is m w, (bounds m w).2), omega (arith, cv, os, size_is m w, (bounds m w).2))
 
-pub overflow-sub-m-4 : goal.overflow-sub-m-4
-overflow-sub-m-4 c =
+pub overflow_sub-m-4 : goal.overflow_sub-m-4
+overflow_sub-m-4 c =
     let m = c.args.m.now in
     let w = c.requires.whole in
     let ns = held m in
@@ -443,10 +442,10 @@ overflow-sub-m-4 c =
     let os = on-short ns i h q l in
     let sz = cut-sizes ns i h q l in
     let wc = weight-cut ns i h q l in
-    omega (arith, c.property-weight.ensures ∙ (λ j. property_weight (cn j) (cv j)), wc, w.weight)
+    omega (arith, c.property_weight.ensures ∙ (λ j. property_weight (cn j) (cv j)), wc, w.weight)
 
-pub overflow-sub-m-5 : goal.overflow-sub-m-5
-overflow-sub-m-5 c =
+pub overflow_sub-m-5 : goal.overflow_sub-m-5
+overflow_sub-m-5 c =
     let m = c.args.m.now in
     let w = c.requires.whole in
     let ns = held m in
@@ -515,30 +514,30 @@ returns c =
     let wc = weight-cut ns i h q l in
     let ms = with_properties ns i (less_property ps q) in
     let room = room-parts m w (omega (arith, h)) in
-    let kc = c.remove-slice.auto.xs in
-    let kp = c.remove-slice-2.auto.xs in
+    let kc = c.remove_slice.auto.xs in
+    let kp = c.remove_slice-2.auto.xs in
     let in_rows : i < m.counts.nodes = omega (arith, h, count-is m w) in
     let n = (get_or m.properties.now k.property f).name + (get_or m.properties.now k.property f).value in
     let en : n ≡ length (property_of ns i q).0 + length (property_of ns i q).1 = λ j. cn j + cv j in
     let rec : NodeRecord → NodeRecord = λ x. record { depth = x.depth; name = x.name; properties = x.properties - 1; bytes = x.bytes - n } in
     let zs = set m.nodes.now i (rec (get_or m.nodes.now i e)) in
-    let xs = c.remove-slice.new.xs in
-    let ys = c.remove-slice-2.new.xs in
+    let xs = c.remove_slice.new.xs in
+    let ys = c.remove_slice-2.new.xs in
     let lz = length-set m.nodes.now i (rec (get_or m.nodes.now i e)) in
-    let a1 : m.counts.nodes ≤ length zs = omega (arith, w.nodes_in_lem, lz) in
-    let a2 : m.counts.properties - 1 ≤ length xs = omega (arith, w.properties_in_lem, kc) in
-    let a3 : m.size - n ≤ length ys = omega (arith, w.size-in, kp) in
+    let a1 : m.counts.nodes ≤ length zs = omega (arith, w.nodes_in, lz) in
+    let a2 : m.counts.properties - 1 ≤ length xs = omega (arith, w.properties_in, kc) in
+    let a3 : m.size - n ≤ length ys = omega (arith, w.size_in, kp) in
     let l1 : 256 ≤ length zs = omega (arith, room.0, lz) in
     let l2 : 1024 ≤ length xs = omega (arith, room.1, kc) in
     let l3 : 24576 ≤ length ys = omega (arith, room.2, kp) in
     let ob = sym w.rows in
     let oc = sym w.cells in
     let back = sym w.bytes in
-    let wt : m.counts.weight - c.property-weight.result ≡ weight_of ms = omega (arith, c.property-weight.ensures ∙ (λ j. property_weight (cn j) (cv j)), wc, w.weight) in
+    let wt : m.counts.weight - c.property_weight.result ≡ weight_of ms = omega (arith, c.property_weight.ensures ∙ (λ j. property_weight (cn j) (cv j)), wc, w.weight) in
     let less : length (property_bytes ps) - n ≡ length (property_bytes ps) - (length (property_of ns i q).0 + length (property_of ns i q).1) = ap (λ x. length (property_bytes ps) - x) en in
     renew _ ms
-    (take-set-in m.counts.nodes i m.nodes.now (rec (get_or m.nodes.now i e)) in_rows w.nodes_in_lem ∙ (λ j. set (ob j) i (rec (row j))) ∙ ap (set (rows_of ns) i) (sym (row_cut ns i h q l (length ps - 1) (length (property_bytes ps) - n) refl less)) ∙ sym (rows_other ns i h (less_property ps q)))
-    (c.remove-slice.ensures ∙ (λ j. spliced_out (oc j) (kpr j) 1) ∙ cells_cut ns i h q l)
-    (c.remove-slice-2.ensures ∙ (λ j. spliced_out (back j) k.at n) ∙ bytes_cut ns i h q l k.at n kat en)
+    (take-set-in m.counts.nodes i m.nodes.now (rec (get_or m.nodes.now i e)) in_rows w.nodes_in ∙ (λ j. set (ob j) i (rec (row j))) ∙ ap (set (rows_of ns) i) (sym (row_cut ns i h q l (length ps - 1) (length (property_bytes ps) - n) refl less)) ∙ sym (rows_other ns i h (less_property ps q)))
+    (c.remove_slice.ensures ∙ (λ j. spliced_out (oc j) (kpr j) 1) ∙ cells_cut ns i h q l)
+    (c.remove_slice-2.ensures ∙ (λ j. spliced_out (back j) k.at n) ∙ bytes_cut ns i h q l k.at n kat en)
     m.boot refl a1 a2 a3 wt
     (room-from m.counts.nodes (length zs) (length xs) (length ys) l1 l2 l3) c.requires.sound

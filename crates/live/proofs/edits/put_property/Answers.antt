@@ -1,18 +1,16 @@
-use Rattle.std.proofs.Common.{◌≡◌, ℕ, ◌+◌, ◌-◌, ◌*◌, ◌<◌, ◌≤◌, true, List, [], ◌∷◌, ◌++◌, length, get_or, take, drop, set, sym, refl, ap, ◌∙◌, subst, arith, rules}
-use Rattle.std.proofs.lemmas.List.{nil_from_length, length-set, length-take-le}
-use Rattle.tape.specs.Nodes.{Node, valid}
-use Rattle.tape.specs.Tapes.{nth, properties_at, property_of, bare_node, with_node, less_node, with_properties, less_property, node_weight, property_weight, weight_of}
+use Rattle.std.proofs.Common.{◌≡◌, ◌+◌, ◌<◌, ◌≤◌, [], ◌∷◌, length, get_or, take, set, sym, refl, ap, ◌∙◌, subst, arith, rules}
+use Rattle.std.proofs.lemmas.List.{length-set}
+use Rattle.tape.specs.Tapes.{nth, properties_at, with_properties, property_weight}
 use Rattle.live.specs.declared.memory.NodeRecord.{NodeRecord}
-use Rattle.live.specs.declared.memory.PropertyRecord.{PropertyRecord}
-use Rattle.live.specs.Records.{held, row_of, cell_of, cells_of, bytes_of, property_bytes, rows_of}
-use Rattle.live.specs.Splices.{spliced_in, spliced_out}
-use Rattle.live.proofs.Kept.{count-is, size_is, cells_are, bounds, spot_row, spot_in_lem, spot-at, spot-property, spot-low, spot_few, at-short, all-cells, mark_cell, mark-in, mark-at, mark-property, mark-low, mark-value, on-short, cells-short, front_long, around_it}
+use Rattle.live.specs.Records.{held, cell_of, bytes_of, rows_of}
+use Rattle.live.specs.Splices.{spliced_in}
+use Rattle.live.proofs.Kept.{count-is, size_is, cells_are, spot_row, spot_in_lem, spot-at, spot-property, spot-low, spot_few, at-short, all-cells}
 use Rattle.live.proofs.Fitted.{room-parts, room-from, property-room}
-use Rattle.live.proofs.Moved.{renew, take-set-in, dressed, rows_other, row_put, cells-put, bytes-put, weight-put}
+use Rattle.live.proofs.Moved.{renew, take-set-in, rows_other, row_put, cells-put, bytes-put, weight-put}
 use Rattle.live.proofs.edits.put_property.Goals as goal
 
-pub offset-bounds-m-s : goal.offset-bounds-m-s
-offset-bounds-m-s c =
+pub offset_bounds-m-s : goal.offset_bounds-m-s
+offset_bounds-m-s c =
     let m = c.args.m.now in
     let w = c.requires.whole in
     let ns = held m in
@@ -53,8 +51,8 @@ bounds-m-s c =
     let ps = properties_at ns i in
     b.0
 
-pub overflow-add-at : goal.overflow-add-at
-overflow-add-at c =
+pub overflow_add-at : goal.overflow_add-at
+overflow_add-at c =
     let m = c.args.m.now in
     let w = c.requires.whole in
     let ns = held m in
@@ -74,8 +72,8 @@ overflow-add-at c =
     let ps = properties_at ns i in
     search rules
 
-pub insert-slice-requires : goal.insert-slice-requires
-insert-slice-requires c =
+pub insert_slice-requires : goal.insert_slice-requires
+insert_slice-requires c =
     let m = c.args.m.now in
     let w = c.requires.whole in
     let ns = held m in
@@ -100,8 +98,8 @@ insert-slice-requires c =
     let size = size_is m w in
     record { order = omega (arith, pr, all-cells ns i h, cells_are m w); room = r.0 }
 
-pub insert-slice-requires-2 : goal.insert-slice-requires-2
-insert-slice-requires-2 c =
+pub insert_slice-requires-2 : goal.insert_slice-requires-2
+insert_slice-requires-2 c =
     let m = c.args.m.now in
     let w = c.requires.whole in
     let ns = held m in
@@ -126,8 +124,8 @@ insert-slice-requires-2 c =
     let size = size_is m w in
     record { order = omega (arith, rn, at, sh, size); room = omega (arith, r.1) }
 
-pub overflow-add-at-2 : goal.overflow-add-at-2
-overflow-add-at-2 c =
+pub overflow_add-at-2 : goal.overflow_add-at-2
+overflow_add-at-2 c =
     let m = c.args.m.now in
     let w = c.requires.whole in
     let ns = held m in
@@ -153,8 +151,8 @@ overflow-add-at-2 c =
     let f : s.at + (get_or m.nodes.now i e).name + length name ≤ 50000 = omega (arith, rn, low, r.2) in
     search rules
 
-pub insert-slice-requires-3 : goal.insert-slice-requires-3
-insert-slice-requires-3 c =
+pub insert_slice-requires-3 : goal.insert_slice-requires-3
+insert_slice-requires-3 c =
     let m = c.args.m.now in
     let w = c.requires.whole in
     let ns = held m in
@@ -177,10 +175,10 @@ insert-slice-requires-3 c =
     let r = property-room m w i h name value c.requires.sound in
     let sh = at-short ns i h in
     let size = size_is m w in
-    record { order = omega (arith, rn, at, sh, size); room = omega (arith, r.1, c.insert-slice-2.auto.xs) }
+    record { order = omega (arith, rn, at, sh, size); room = omega (arith, r.1, c.insert_slice-2.auto.xs) }
 
-pub overflow-add-bytes : goal.overflow-add-bytes
-overflow-add-bytes c =
+pub overflow_add-bytes : goal.overflow_add-bytes
+overflow_add-bytes c =
     let m = c.args.m.now in
     let w = c.requires.whole in
     let ns = held m in
@@ -206,8 +204,8 @@ overflow-add-bytes c =
     let f : (get_or m.nodes.now i e).bytes + length name ≤ 50000 = omega (arith, rb, low, r.2) in
     search rules
 
-pub overflow-add-bytes-2 : goal.overflow-add-bytes-2
-overflow-add-bytes-2 c =
+pub overflow_add-bytes-2 : goal.overflow_add-bytes-2
+overflow_add-bytes-2 c =
     let m = c.args.m.now in
     let w = c.requires.whole in
     let ns = held m in
@@ -233,8 +231,8 @@ overflow-add-bytes-2 c =
     let f : (get_or m.nodes.now i e).bytes + length name + length value ≤ 90000 = omega (arith, rb, low, r.2) in
     search rules
 
-pub overflow-add-m : goal.overflow-add-m
-overflow-add-m c =
+pub overflow_add-m : goal.overflow_add-m
+overflow_add-m c =
     let m = c.args.m.now in
     let w = c.requires.whole in
     let ns = held m in
@@ -255,8 +253,8 @@ overflow-add-m c =
     let f : (get_or m.nodes.now i e).properties + 1 ≤ 1025 = omega (arith, rp, few) in
     omega (arith, f)
 
-pub offset-bounds-m-s-2 : goal.offset-bounds-m-s-2
-offset-bounds-m-s-2 c =
+pub offset_bounds-m-s-2 : goal.offset_bounds-m-s-2
+offset_bounds-m-s-2 c =
     let m = c.args.m.now in
     let w = c.requires.whole in
     let ns = held m in
@@ -297,8 +295,8 @@ bounds-m-s-2 c =
     let ps = properties_at ns i in
     b.0
 
-pub property-weight-requires : goal.property-weight-requires
-property-weight-requires c =
+pub property_weight-requires : goal.property_weight-requires
+property_weight-requires c =
     let m = c.args.m.now in
     let w = c.requires.whole in
     let ns = held m in
@@ -323,8 +321,8 @@ property-weight-requires c =
     let size = size_is m w in
     (omega (arith, r.2), omega (arith, r.2))
 
-pub overflow-add-m-3 : goal.overflow-add-m-3
-overflow-add-m-3 c =
+pub overflow_add-m-3 : goal.overflow_add-m-3
+overflow_add-m-3 c =
     let m = c.args.m.now in
     let w = c.requires.whole in
     let ns = held m in
@@ -347,11 +345,11 @@ overflow-add-m-3 c =
     let r = property-room m w i h name value c.requires.sound in
     let sh = at-short ns i h in
     let size = size_is m w in
-    let f : m.counts.weight + c.property-weight.result ≤ 24576 = subst (λ x. m.counts.weight + x ≤ 24576) (sym c.property-weight.ensures) r.3 in
+    let f : m.counts.weight + c.property_weight.result ≤ 24576 = subst (λ x. m.counts.weight + x ≤ 24576) (sym c.property_weight.ensures) r.3 in
     search rules
 
-pub overflow-add-m-5 : goal.overflow-add-m-5
-overflow-add-m-5 c =
+pub overflow_add-m-5 : goal.overflow_add-m-5
+overflow_add-m-5 c =
     let m = c.args.m.now in
     let w = c.requires.whole in
     let ns = held m in
@@ -403,18 +401,18 @@ returns c =
     let size = size_is m w in
     let ms = with_properties ns i ((name, value) ∷ ps) in
     let room = room-parts m w (omega (arith, h)) in
-    let kc = c.insert-slice.auto.xs in
-    let kp = c.insert-slice-2.auto.xs in
-    let kq = c.insert-slice-3.auto.xs in
+    let kc = c.insert_slice.auto.xs in
+    let kp = c.insert_slice-2.auto.xs in
+    let kq = c.insert_slice-3.auto.xs in
     let in_rows : i < m.counts.nodes = omega (arith, h, count-is m w) in
     let rec : NodeRecord → NodeRecord = λ x. record { depth = x.depth; name = x.name; properties = x.properties + 1; bytes = x.bytes + length name + length value } in
     let back = sym w.bytes in
     let spot : s.at + (get_or m.nodes.now i e).name ≡ length (bytes_of (take i ns)) + length (nth ns i).name = λ j. at j + rn j in
     let zs = set m.nodes.now i (rec (get_or m.nodes.now i e)) in
-    let xs = c.insert-slice.new.xs in
-    let ys = c.insert-slice-3.new.xs in
+    let xs = c.insert_slice.new.xs in
+    let ys = c.insert_slice-3.new.xs in
     let lz = length-set m.nodes.now i (rec (get_or m.nodes.now i e)) in
-    let a1 : m.counts.nodes ≤ length zs = omega (arith, w.nodes_in_lem, lz) in
+    let a1 : m.counts.nodes ≤ length zs = omega (arith, w.nodes_in, lz) in
     let a2 : m.counts.properties + 1 ≤ length xs = omega (arith, r.0, kc) in
     let a3 : m.size + length name + length value ≤ length ys = omega (arith, r.1, kp, kq) in
     let l1 : 256 ≤ length zs = omega (arith, room.0, lz) in
@@ -423,9 +421,9 @@ returns c =
     let ob = sym w.rows in
     let oc = sym w.cells in
     renew _ ms
-    (take-set-in m.counts.nodes i m.nodes.now (rec (get_or m.nodes.now i e)) in_rows w.nodes_in_lem ∙ (λ j. set (ob j) i (rec (row j))) ∙ ap (set (rows_of ns) i) (sym (row_put ns i h name value)) ∙ sym (rows_other ns i h ((name, value) ∷ ps)))
-    (c.insert-slice.ensures ∙ (λ j. spliced_in (oc j) (pr j) (cell_of (name, value) ∷ [])) ∙ cells-put ns i h name value)
-    (c.insert-slice-3.ensures ∙ ap (λ t. spliced_in t (s.at + (get_or m.nodes.now i e).name + length name) value) c.insert-slice-2.ensures ∙ (λ j. spliced_in (spliced_in (back j) (spot j) name) (spot j + length name) value) ∙ bytes-put ns i h name value)
+    (take-set-in m.counts.nodes i m.nodes.now (rec (get_or m.nodes.now i e)) in_rows w.nodes_in ∙ (λ j. set (ob j) i (rec (row j))) ∙ ap (set (rows_of ns) i) (sym (row_put ns i h name value)) ∙ sym (rows_other ns i h ((name, value) ∷ ps)))
+    (c.insert_slice.ensures ∙ (λ j. spliced_in (oc j) (pr j) (cell_of (name, value) ∷ [])) ∙ cells-put ns i h name value)
+    (c.insert_slice-3.ensures ∙ ap (λ t. spliced_in t (s.at + (get_or m.nodes.now i e).name + length name) value) c.insert_slice-2.ensures ∙ (λ j. spliced_in (spliced_in (back j) (spot j) name) (spot j + length name) value) ∙ bytes-put ns i h name value)
     m.boot refl a1 a2 a3
-    (ap (λ x. m.counts.weight + x) c.property-weight.ensures ∙ ap (λ x. x + property_weight (length name) (length value)) w.weight ∙ sym (weight-put ns i h name value))
+    (ap (λ x. m.counts.weight + x) c.property_weight.ensures ∙ ap (λ x. x + property_weight (length name) (length value)) w.weight ∙ sym (weight-put ns i h name value))
     (room-from m.counts.nodes (length zs) (length xs) (length ys) l1 l2 l3) c.requires.sound

@@ -1,19 +1,16 @@
-use Rattle.std.proofs.Common.{◌≡◌, ℕ, ◌+◌, ◌-◌, ◌*◌, ◌<◌, ◌≤◌, true, List, [], ◌∷◌, ◌++◌, length, get_or, take, drop, set, sym, refl, ap, ◌∙◌, subst, arith, rules}
+use Rattle.std.proofs.Common.{◌≡◌, ◌+◌, ◌-◌, ◌≤◌, ◌++◌, length, get_or, take, drop, set, sym, refl, ap, ◌∙◌, subst, arith, rules}
 use borrow.Rule.Slice.PartMut.{put_mid}
-use Rattle.std.proofs.lemmas.List.{nil_from_length, length-append, length-set, length-take-le, length-drop}
-use Rattle.tape.specs.Nodes.{Node, valid}
-use Rattle.tape.specs.Tapes.{nth, properties_at, property_of, bare_node, with_node, less_node, with_properties, less_property, node_weight, property_weight, weight_of}
-use Rattle.live.specs.declared.memory.NodeRecord.{NodeRecord}
+use Rattle.std.proofs.lemmas.List.{length-append}
+use Rattle.tape.specs.Tapes.{nth, properties_at, property_of, with_properties}
 use Rattle.live.specs.declared.memory.PropertyRecord.{PropertyRecord}
-use Rattle.live.specs.Records.{held, row_of, cell_of, cells_of, bytes_of, property_bytes, rows_of}
-use Rattle.live.specs.Splices.{spliced_in, spliced_out}
-use Rattle.live.proofs.Kept.{count-is, size_is, cells_are, bounds, spot_row, spot_in_lem, spot-at, spot-property, spot-low, spot_few, at-short, all-cells, mark_cell, mark-in, mark-at, mark-property, mark-low, mark-value, on-short, cells-short, front_long, around_it, part-is}
+use Rattle.live.specs.Records.{held, bytes_of, property_bytes}
+use Rattle.live.proofs.Kept.{size_is, bounds, mark_cell, mark-in, mark-at, on-short}
 use Rattle.live.proofs.Fitted.{room-parts, room-from}
 use Rattle.live.proofs.Moved.{renew, rows-over, cells_over, bytes-over, bytes_were, weight-over, put_over, length_over}
 use Rattle.live.proofs.edits.write_value.Goals as goal
 
-pub offset-bounds-m-k : goal.offset-bounds-m-k
-offset-bounds-m-k c =
+pub offset_bounds-m-k : goal.offset_bounds-m-k
+offset_bounds-m-k c =
     let m = c.args.m.now in
     let w = c.requires.whole in
     let ns = held m in
@@ -54,8 +51,8 @@ bounds-m-k c =
     let same = c.requires.length in
     kb.0
 
-pub overflow-add-start : goal.overflow-add-start
-overflow-add-start c =
+pub overflow_add-start : goal.overflow_add-start
+overflow_add-start c =
     let m = c.args.m.now in
     let w = c.requires.whole in
     let ns = held m in
@@ -75,8 +72,8 @@ overflow-add-start c =
     let same = c.requires.length in
     omega (arith, cn, kat, os, size_is m w, (bounds m w).2)
 
-pub overflow-add-end : goal.overflow-add-end
-overflow-add-end c =
+pub overflow_add-end : goal.overflow_add-end
+overflow_add-end c =
     let m = c.args.m.now in
     let w = c.requires.whole in
     let ns = held m in
@@ -96,8 +93,8 @@ overflow-add-end c =
     let same = c.requires.length in
     omega (arith, cn, kat, os, same, size_is m w, (bounds m w).2)
 
-pub slice-bounds-copy-from-slice-end : goal.slice-bounds-copy-from-slice-end
-slice-bounds-copy-from-slice-end c =
+pub slice_bounds-copy_from_slice-end : goal.slice_bounds-copy_from_slice-end
+slice_bounds-copy_from_slice-end c =
     let m = c.args.m.now in
     let w = c.requires.whole in
     let ns = held m in
@@ -115,7 +112,7 @@ slice-bounds-copy-from-slice-end c =
     let os = on-short ns i h q l in
     let u = c.args.value.now in
     let same = c.requires.length in
-    let z : k.at + (get_or m.properties.now k.property f).name + length u ≤ length m.pool.now = omega (arith, cn, kat, os, same, size_is m w, w.size-in) in
+    let z : k.at + (get_or m.properties.now k.property f).name + length u ≤ length m.pool.now = omega (arith, cn, kat, os, same, size_is m w, w.size_in) in
     search rules
 
 pub returns : goal.returns
@@ -146,6 +143,6 @@ returns c =
     let start = k.at + (get_or m.properties.now k.property f).name in
     let a : start ≡ length X = omega (arith, kat, cn, length-append (bytes_of (take i ns)) ((nth ns i).name ++ (property_bytes (take q ps) ++ x.0)), length-append (nth ns i).name (property_bytes (take q ps) ++ x.0), length-append (property_bytes (take q ps)) x.0) in
     let n : start + length u - start ≡ length u = omega arith in
-    let bytes = put_over m.pool.now X x.1 Z u c.copy-from-slice.new.self m.size start (start + length u - start) (sym w.bytes ∙ bytes_were ns i h q l u same) w.size-in a same n c.copy-from-slice.ensures.after in
-    let kp : length (put_mid start (start + length u - start) m.pool.now c.copy-from-slice.new.self) ≡ length m.pool.now = length_over m.pool.now c.copy-from-slice.new.self start (start + length u - start) (omega (arith, n, cn, kat, os, same, size_is m w, w.size-in)) (ap length c.copy-from-slice.ensures.after ∙ sym n) in
-    renew _ ms (sym w.rows ∙ sym (rows-over ns i h q l u same)) (sym w.cells ∙ sym (cells_over ns i h q l u same)) (bytes ∙ sym (bytes-over ns i h q l u same)) m.boot refl w.nodes_in_lem w.properties_in_lem (subst (λ z. m.size ≤ z) (sym kp) w.size-in) (w.weight ∙ sym (weight-over ns i h q l u same)) (room-from m.counts.nodes (length m.nodes.now) _ _ room.0 room.1 (subst (λ z. 24576 ≤ z) (sym kp) room.2)) c.requires.sound
+    let bytes = put_over m.pool.now X x.1 Z u c.copy_from_slice.new.self m.size start (start + length u - start) (sym w.bytes ∙ bytes_were ns i h q l u same) w.size_in a same n c.copy_from_slice.ensures.after in
+    let kp : length (put_mid start (start + length u - start) m.pool.now c.copy_from_slice.new.self) ≡ length m.pool.now = length_over m.pool.now c.copy_from_slice.new.self start (start + length u - start) (omega (arith, n, cn, kat, os, same, size_is m w, w.size_in)) (ap length c.copy_from_slice.ensures.after ∙ sym n) in
+    renew _ ms (sym w.rows ∙ sym (rows-over ns i h q l u same)) (sym w.cells ∙ sym (cells_over ns i h q l u same)) (bytes ∙ sym (bytes-over ns i h q l u same)) m.boot refl w.nodes_in w.properties_in (subst (λ z. m.size ≤ z) (sym kp) w.size_in) (w.weight ∙ sym (weight-over ns i h q l u same)) (room-from m.counts.nodes (length m.nodes.now) _ _ room.0 room.1 (subst (λ z. 24576 ≤ z) (sym kp) room.2)) c.requires.sound

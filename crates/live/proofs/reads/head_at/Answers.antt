@@ -1,13 +1,10 @@
-use Rattle.std.proofs.Common.{◌≡◌, ℕ, ◌+◌, ◌-◌, ◌*◌, ◌<◌, ◌≤◌, length, take, drop, sym, refl, ap, ◌∙◌, subst, arith, rules}
-use Rattle.tape.specs.Tapes.{nth, properties_at, property_of}
+use Rattle.std.proofs.Common.{ap, rules}
 use Rattle.live.specs.declared.memory.NodeRecord.{NodeRecord}
-use Rattle.live.specs.declared.memory.PropertyRecord.{PropertyRecord}
-use Rattle.live.specs.Records.{held, cells_of, bytes_of, property_bytes}
-use Rattle.live.proofs.Kept.{spot_row, spot_in_lem, spot-at, spot-property, spot-low, spot_few, spot-name, mark-property, mark-at, mark_cell, mark-in, mark-low, mark-name, mark-value, bytes_next, cells-next, on-next, sliced, first-is, next-is, behind-is}
+use Rattle.live.proofs.Kept.{spot_row, spot_in_lem, spot-at, spot-property, spot-low, spot_few, first-is, next-is}
 use Rattle.live.proofs.reads.head_at.Goals as goal
 
-pub offset-bounds-m-s : goal.offset-bounds-m-s
-offset-bounds-m-s c =
+pub offset_bounds-m-s : goal.offset_bounds-m-s
+offset_bounds-m-s c =
     let m = c.args.m.now in
     let s = c.args.s in
     let b = spot_in_lem m c.requires.whole s c.requires.here in
@@ -28,8 +25,8 @@ bounds-m-s c =
     let few = spot_few m c.requires.whole s c.requires.here in
     b.0
 
-pub overflow-add-at : goal.overflow-add-at
-overflow-add-at c =
+pub overflow_add-at : goal.overflow_add-at
+overflow_add-at c =
     let m = c.args.m.now in
     let s = c.args.s in
     let b = spot_in_lem m c.requires.whole s c.requires.here in
@@ -42,8 +39,8 @@ overflow-add-at c =
     let rb = ap (λ x. x.bytes) r in
     search rules
 
-pub overflow-add-next : goal.overflow-add-next
-overflow-add-next c =
+pub overflow_add-next : goal.overflow_add-next
+overflow_add-next c =
     let m = c.args.m.now in
     let s = c.args.s in
     let b = spot_in_lem m c.requires.whole s c.requires.here in
@@ -53,8 +50,8 @@ overflow-add-next c =
     let few = spot_few m c.requires.whole s c.requires.here in
     search rules
 
-pub overflow-add-next-2 : goal.overflow-add-next-2
-overflow-add-next-2 c =
+pub overflow_add-next-2 : goal.overflow_add-next-2
+overflow_add-next-2 c =
     let m = c.args.m.now in
     let s = c.args.s in
     let b = spot_in_lem m c.requires.whole s c.requires.here in
@@ -67,8 +64,8 @@ overflow-add-next-2 c =
     let rb = ap (λ x. x.bytes) r in
     search rules
 
-pub overflow-add-next-3 : goal.overflow-add-next-3
-overflow-add-next-3 c =
+pub overflow_add-next-3 : goal.overflow_add-next-3
+overflow_add-next-3 c =
     let m = c.args.m.now in
     let s = c.args.s in
     let b = spot_in_lem m c.requires.whole s c.requires.here in

@@ -1,13 +1,10 @@
-use Rattle.std.proofs.Common.{◌≡◌, ℕ, ◌+◌, ◌-◌, ◌*◌, ◌<◌, ◌≤◌, length, take, drop, sym, refl, ap, ◌∙◌, subst, arith, rules}
-use Rattle.tape.specs.Tapes.{nth, properties_at, property_of}
-use Rattle.live.specs.declared.memory.NodeRecord.{NodeRecord}
+use Rattle.std.proofs.Common.{◌<◌, ap, arith, rules}
 use Rattle.live.specs.declared.memory.PropertyRecord.{PropertyRecord}
-use Rattle.live.specs.Records.{held, cells_of, bytes_of, property_bytes}
-use Rattle.live.proofs.Kept.{spot_row, spot_in_lem, spot-at, spot-property, spot-low, spot_few, spot-name, mark-property, mark-at, mark_cell, mark-in, mark-low, mark-name, mark-value, bytes_next, cells-next, on-next, sliced, first-is, next-is, behind-is}
+use Rattle.live.proofs.Kept.{mark-property, mark_cell, mark-in, mark-low, behind-is}
 use Rattle.live.proofs.reads.mark_behind.Goals as goal
 
-pub offset-bounds-m-k : goal.offset-bounds-m-k
-offset-bounds-m-k c =
+pub offset_bounds-m-k : goal.offset_bounds-m-k
+offset_bounds-m-k c =
     let m = c.args.m.now in
     let k = c.args.k in
     let b = mark-in m c.requires.whole k c.requires.on in
@@ -26,8 +23,8 @@ bounds-m-k c =
     let low = mark-low m c.requires.whole k c.requires.on in
     b.0
 
-pub overflow-add-result : goal.overflow-add-result
-overflow-add-result c =
+pub overflow_add-result : goal.overflow_add-result
+overflow_add-result c =
     let m = c.args.m.now in
     let k = c.args.k in
     let b = mark-in m c.requires.whole k c.requires.on in
@@ -37,8 +34,8 @@ overflow-add-result c =
     let f : k.number < 1024 = omega (arith, b.1, mark-property m c.requires.whole k c.requires.on) in
     search rules
 
-pub overflow-add-result-2 : goal.overflow-add-result-2
-overflow-add-result-2 c =
+pub overflow_add-result-2 : goal.overflow_add-result-2
+overflow_add-result-2 c =
     let m = c.args.m.now in
     let k = c.args.k in
     let b = mark-in m c.requires.whole k c.requires.on in
@@ -49,8 +46,8 @@ overflow-add-result-2 c =
     let rv = ap (λ x. x.value) r in
     search rules
 
-pub overflow-add-result-3 : goal.overflow-add-result-3
-overflow-add-result-3 c =
+pub overflow_add-result-3 : goal.overflow_add-result-3
+overflow_add-result-3 c =
     let m = c.args.m.now in
     let k = c.args.k in
     let b = mark-in m c.requires.whole k c.requires.on in
@@ -61,8 +58,8 @@ overflow-add-result-3 c =
     let rv = ap (λ x. x.value) r in
     search rules
 
-pub overflow-add-result-4 : goal.overflow-add-result-4
-overflow-add-result-4 c =
+pub overflow_add-result-4 : goal.overflow_add-result-4
+overflow_add-result-4 c =
     let m = c.args.m.now in
     let k = c.args.k in
     let b = mark-in m c.requires.whole k c.requires.on in

@@ -1,13 +1,10 @@
-use Rattle.std.proofs.Common.{◌≡◌, ℕ, ◌+◌, ◌-◌, ◌*◌, ◌<◌, ◌≤◌, length, take, drop, sym, refl, ap, ◌∙◌, subst, arith, rules}
-use Rattle.tape.specs.Tapes.{nth, properties_at, property_of}
-use Rattle.live.specs.declared.memory.NodeRecord.{NodeRecord}
+use Rattle.std.proofs.Common.{ap, ◌∙◌, rules}
 use Rattle.live.specs.declared.memory.PropertyRecord.{PropertyRecord}
-use Rattle.live.specs.Records.{held, cells_of, bytes_of, property_bytes}
-use Rattle.live.proofs.Kept.{spot_row, spot_in_lem, spot-at, spot-property, spot-low, spot_few, spot-name, mark-property, mark-at, mark_cell, mark-in, mark-low, mark-name, mark-value, bytes_next, cells-next, on-next, sliced, first-is, next-is, behind-is}
+use Rattle.live.proofs.Kept.{mark_cell, mark-in, mark-low, mark-name, sliced}
 use Rattle.live.proofs.reads.property_name_at.Goals as goal
 
-pub offset-bounds-m-k : goal.offset-bounds-m-k
-offset-bounds-m-k c =
+pub offset_bounds-m-k : goal.offset_bounds-m-k
+offset_bounds-m-k c =
     let m = c.args.m.now in
     let k = c.args.k in
     let b = mark-in m c.requires.whole k c.requires.on in
@@ -26,8 +23,8 @@ bounds-m-k c =
     let low = mark-low m c.requires.whole k c.requires.on in
     b.0
 
-pub overflow-add-end : goal.overflow-add-end
-overflow-add-end c =
+pub overflow_add-end : goal.overflow_add-end
+overflow_add-end c =
     let m = c.args.m.now in
     let k = c.args.k in
     let b = mark-in m c.requires.whole k c.requires.on in
@@ -38,8 +35,8 @@ overflow-add-end c =
     let rv = ap (λ x. x.value) r in
     search rules
 
-pub slice-bounds-result-end : goal.slice-bounds-result-end
-slice-bounds-result-end c =
+pub slice_bounds-result-end : goal.slice_bounds-result-end
+slice_bounds-result-end c =
     let m = c.args.m.now in
     let k = c.args.k in
     let b = mark-in m c.requires.whole k c.requires.on in

@@ -1,4 +1,4 @@
-use Rattle.std.proofs.Common.{◌≡◌, ◌+◌, ◌-◌, ◌≤◌, length, drop}
+use Rattle.std.proofs.Common.{◌≡◌, ◌-◌, length, drop}
 use Rattle.tape.specs.Nodes.{child_in}
 use Rattle.tape.specs.Tapes.{placed}
 use Rattle.tape.proofs.search.find_child.Given as goal

@@ -1,7 +1,7 @@
-use Rattle.std.proofs.Common.{◌≡◌, ℕ, ◌+◌, ◌-◌, ◌<◌, ◌≤◌, true, [], ◌∷◌, ◌++◌, length, take, drop, sym, refl, ap, ◌∙◌, subst, arith, rules}
+use Rattle.std.proofs.Common.{◌+◌, ◌-◌, ◌≤◌, [], ◌∷◌, ◌++◌, length, take, drop, sym, ap, ◌∙◌, subst, arith, rules}
 use Rattle.std.proofs.lemmas.List.{take_rest, length-append}
 use Rattle.tape.specs.Nodes.{Missing}
-use Rattle.tape.specs.Tapes.{Here, stem_at}
+use Rattle.tape.specs.Tapes.{stem_at}
 use Rattle.tape.proofs.Descent.{long_enough, first-slash, root-only, not_root, root-stem, lost, arrived, onward}
 use Rattle.tape.proofs.Sounds.{parts}
 use Rattle.tape.proofs.search.find_node.Goals as goal
@@ -13,11 +13,11 @@ returns-then-path-eq1 g c =
     let i = ap (λ s. s.node) c.start-at.ensures ∙ g.T.Tape.spotted t 0 in
     (record { inside = omega (arith, i, c.requires.opened); is = c.start-at.ensures ∙ ap (g.T.Tape.spot t) (sym i) }, ap (stem_at (g.T.Tape.nodes t)) i ∙ root-stem (g.T.Tape.nodes t) v.shape c.requires.opened ∙ sym (root-only c.args.path.now c.requires.path c.if-path-eq1.true))
 
-pub slice-bounds-rest-count : goal.slice-bounds-rest-count
-slice-bounds-rest-count g c = long_enough c.args.path.now c.requires.path
+pub slice_bounds-rest-count : goal.slice_bounds-rest-count
+slice_bounds-rest-count g c = long_enough c.args.path.now c.requires.path
 
-pub slice-bounds-rest-start : goal.slice-bounds-rest-start
-slice-bounds-rest-start g c = let h = long_enough c.args.path.now c.requires.path in search rules
+pub slice_bounds-rest-start : goal.slice_bounds-rest-start
+slice_bounds-rest-start g c = let h = long_enough c.args.path.now c.requires.path in search rules
 
 pub loop-s-init : goal.loop-s-init
 loop-s-init g c =
@@ -30,18 +30,18 @@ pub returns-in-None : goal.returns-in-None
 returns-in-None g c =
     let t = c.args.t.now in
     let v = parts (g.T.Tape.boot t) (g.T.Tape.nodes t) (g.T.Tape.sound t) in
-    let m = lost (g.T.Tape.nodes t) v.shape v.once (g.T.Tape.spot t) (g.T.Tape.spotted t) c.loop-s.at c.loop-s.invariant.0 c.loop-s.rest.now c.args.path.now c.loop-s.invariant.1 c.find-n.result c.find-n.ensures.value c.find-n.ensures.within c.find-child.result c.find-child.ensures c.in-None.is in
+    let m = lost (g.T.Tape.nodes t) v.shape v.once (g.T.Tape.spot t) (g.T.Tape.spotted t) c.loop-s.at c.loop-s.invariant.0 c.loop-s.rest.now c.args.path.now c.loop-s.invariant.1 c.find-n.result c.find-n.ensures.value c.find-n.ensures.within c.find_child.result c.find_child.ensures c.in-None.is in
     subst (λ p. Missing p [] (g.T.Tape.nodes t)) (sym (not_root c.args.path.now c.if-path-eq1.false)) m
 
 pub returns-then-n-rest : goal.returns-then-n-rest
 returns-then-n-rest g c =
     let t = c.args.t.now in
     let v = parts (g.T.Tape.boot t) (g.T.Tape.nodes t) (g.T.Tape.sound t) in
-    let m = arrived (g.T.Tape.nodes t) v.shape v.once (g.T.Tape.spot t) (g.T.Tape.spotted t) c.loop-s.at c.loop-s.invariant.0 c.loop-s.rest.now c.args.path.now c.loop-s.invariant.1 c.find-n.result c.find-n.ensures.value c.find-n.ensures.within c.find-child.result c.find-child.ensures c.in-Some.s c.in-Some.is c.if-n-rest.true in
+    let m = arrived (g.T.Tape.nodes t) v.shape v.once (g.T.Tape.spot t) (g.T.Tape.spotted t) c.loop-s.at c.loop-s.invariant.0 c.loop-s.rest.now c.args.path.now c.loop-s.invariant.1 c.find-n.result c.find-n.ensures.value c.find-n.ensures.within c.find_child.result c.find_child.ensures c.in-Some.s c.in-Some.is c.if-n-rest.true in
     (m.0, m.1 ∙ sym (not_root c.args.path.now c.if-path-eq1.false))
 
-pub overflow-add-rest : goal.overflow-add-rest
-overflow-add-rest g c =
+pub overflow_add-rest : goal.overflow_add-rest
+overflow_add-rest g c =
     let s = stem_at (g.T.Tape.nodes c.args.t.now) c.loop-s.at.node in
     let l = sym (length-append s (47 ∷ c.loop-s.rest.now)) ∙ ap length c.loop-s.invariant.1 in
     let h : c.find-n.result + 1 ≤ length c.args.path.now = omega (arith, l, c.find-n.ensures.within) in
@@ -51,5 +51,5 @@ pub loop-s-preserved : goal.loop-s-preserved
 loop-s-preserved g c =
     let t = c.args.t.now in
     let v = parts (g.T.Tape.boot t) (g.T.Tape.nodes t) (g.T.Tape.sound t) in
-    let m = onward (g.T.Tape.nodes t) v.shape v.once (g.T.Tape.spot t) (g.T.Tape.spotted t) c.loop-s.at c.loop-s.invariant.0 c.loop-s.rest.now c.args.path.now c.loop-s.invariant.1 c.find-n.result c.find-n.ensures.value c.find-n.ensures.within c.find-child.result c.find-child.ensures c.in-Some.s c.in-Some.is (omega (arith, c.find-n.ensures.within, c.if-n-rest.false)) in
+    let m = onward (g.T.Tape.nodes t) v.shape v.once (g.T.Tape.spot t) (g.T.Tape.spotted t) c.loop-s.at c.loop-s.invariant.0 c.loop-s.rest.now c.args.path.now c.loop-s.invariant.1 c.find-n.result c.find-n.ensures.value c.find-n.ensures.within c.find_child.result c.find_child.ensures c.in-Some.s c.in-Some.is (omega (arith, c.find-n.ensures.within, c.if-n-rest.false)) in
     (m.0, ap (λ x. stem_at (g.T.Tape.nodes t) c.in-Some.s.node ++ (47 ∷ x)) (take_rest c.loop-s.rest.now (c.find-n.result + 1)) ∙ m.1)

@@ -1,4 +1,4 @@
-use Rattle.std.proofs.Common.{◌≡◌, ℕ, ◌+◌, ◌-◌, ◌<◌, ◌≤◌, true, false, [], length, get_or, Some, sym, refl, ap, ◌∙◌, subst, arith}
+use Rattle.std.proofs.Common.{◌+◌, ◌<◌, ◌≤◌, [], length, get_or, Some, sym, refl, ap, ◌∙◌, subst, arith}
 use Rattle.std.specs.Str.{bytes_eq}
 use Rattle.tape.specs.Nodes.{property_in}
 use Rattle.tape.specs.Tapes.{placed, properties_at}
@@ -14,8 +14,8 @@ loop-m-init g c =
     let b = ap (λ m. m.number) f ∙ (g.T.Tape.numbered t i 0).1 in
     (refl, f ∙ (λ k. g.T.Tape.mark t (sym a k) (sym b k)), property-same (g.T.Tape.mark t c.head-head.result.first.node) (properties_at (g.T.Tape.nodes t) c.head-head.result.first.node) c.args.name.now _ 0 b)
 
-pub property-name-requires : goal.property-name-requires
-property-name-requires g c =
+pub property_name-requires : goal.property_name-requires
+property_name-requires g c =
     let t = c.args.t.now in
     let a = ap (λ m. m.node) c.head-head.ensures.first ∙ (g.T.Tape.numbered t c.args.at.node 0).0 in
     let e = c.loop-m.invariant.0 ∙ a in
@@ -43,7 +43,7 @@ returns-then-same g c =
     let xs = properties_at (g.T.Tape.nodes t) c.head-head.result.first.node in
     let k = c.loop-m.m.number in
     let l : k < length xs = subst (λ i. k < length (properties_at (g.T.Tape.nodes t) i)) (sym a) (omega (arith, c.head-head.ensures.properties, c.loop-m-test.true)) in
-    let s = ap (λ i. bytes_eq (get_or (properties_at (g.T.Tape.nodes t) i) k ([], [])).0 c.args.name.now) (sym c.loop-m.invariant.0) ∙ sym (ap (λ x. bytes_eq x c.args.name.now) c.property-name.ensures) ∙ sym c.if-same.ensures in
+    let s = ap (λ i. bytes_eq (get_or (properties_at (g.T.Tape.nodes t) i) k ([], [])).0 c.args.name.now) (sym c.loop-m.invariant.0) ∙ sym (ap (λ x. bytes_eq x c.args.name.now) c.property_name.ensures) ∙ sym c.if-same.ensures in
     ap Some (c.loop-m.invariant.1 ∙ ap (λ i. g.T.Tape.mark t i k) c.loop-m.invariant.0) ∙ sym (property_met (g.T.Tape.mark t c.head-head.result.first.node) xs c.args.name.now k l s) ∙ c.loop-m.invariant.2
     ∙ ap (λ i. placed (g.T.Tape.mark t i) 0 (property_in c.args.name.now (properties_at (g.T.Tape.nodes t) i))) a
 
@@ -54,7 +54,7 @@ loop-m-preserved g c =
     let xs = properties_at (g.T.Tape.nodes t) c.head-head.result.first.node in
     let k = c.loop-m.m.number in
     let l : k < length xs = subst (λ i. k < length (properties_at (g.T.Tape.nodes t) i)) (sym a) (omega (arith, c.head-head.ensures.properties, c.loop-m-test.true)) in
-    let s = ap (λ i. bytes_eq (get_or (properties_at (g.T.Tape.nodes t) i) k ([], [])).0 c.args.name.now) (sym c.loop-m.invariant.0) ∙ sym (ap (λ x. bytes_eq x c.args.name.now) c.property-name.ensures) ∙ sym c.if-same.ensures in
+    let s = ap (λ i. bytes_eq (get_or (properties_at (g.T.Tape.nodes t) i) k ([], [])).0 c.args.name.now) (sym c.loop-m.invariant.0) ∙ sym (ap (λ x. bytes_eq x c.args.name.now) c.property_name.ensures) ∙ sym c.if-same.ensures in
     let u = c.behind-m.ensures in
     let n = ap (λ m. m.node) u ∙ (g.T.Tape.numbered t c.loop-m.m.node (k + 1)).0 in
     let j = ap (λ m. m.number) u ∙ (g.T.Tape.numbered t c.loop-m.m.node (k + 1)).1 in

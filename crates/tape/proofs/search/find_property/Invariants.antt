@@ -1,4 +1,4 @@
-use Rattle.std.proofs.Common.{◌≡◌, ◌+◌, ◌-◌, ◌≤◌, length, drop}
+use Rattle.std.proofs.Common.{◌≡◌, ◌-◌, drop}
 use Rattle.tape.specs.Nodes.{property_in}
 use Rattle.tape.specs.Tapes.{placed, properties_at}
 use Rattle.tape.proofs.search.find_property.Given as goal

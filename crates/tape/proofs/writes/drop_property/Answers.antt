@@ -1,6 +1,5 @@
-use Rattle.std.proofs.Common.{◌≡◌, ℕ, ◌+◌, ◌-◌, ◌<◌, ◌≤◌, ◌∷◌, length, set, None, sym, refl, ap, ◌∙◌, subst, arith, rules}
-use Rattle.tape.specs.Nodes.{meaning_of, valid}
-use Rattle.tape.specs.Tapes.{properties_at, property_of, with_properties, less_property, property_fits, property_weight}
+use Rattle.std.proofs.Common.{◌<◌, length, None, sym, refl, ◌∙◌, arith}
+use Rattle.tape.specs.Nodes.{meaning_of}
 use Rattle.tape.proofs.Looks.{look_missing, found-on, found_none}
 use Rattle.tape.proofs.Outcomes.{unset-no-node, unset-none, unset-done, unset-valid, unset-after}
 use Rattle.tape.proofs.writes.drop_property.Goals as goal
@@ -14,12 +13,12 @@ returns-in-None g c =
     let path = c.args.path.now in
     let name = c.args.name.now in
     let h : 0 < length ns = omega (arith, c.counts.ensures.nodes, c.if-counts-eq0.false) in
-    let p = sym c.if-not-is-path.ensures in
-    let q = sym c.if-not-is-property-name.ensures in
+    let p = sym c.if-not-is_path.ensures in
+    let q = sym c.if-not-is_property_name.ensures in
     record { answer = unset-no-node boot ns v h path p name q (look_missing boot ns v path p c.in-None.ensures None); after = refl }
 
-pub returns-in-None-find-property : goal.returns-in-None-find-property
-returns-in-None-find-property g c =
+pub returns-in-None-find_property : goal.returns-in-None-find_property
+returns-in-None-find_property g c =
     let t = c.args.t.now in
     let ns = g.T.Tape.nodes t in
     let boot = g.T.Tape.boot t in
@@ -27,16 +26,16 @@ returns-in-None-find-property g c =
     let path = c.args.path.now in
     let name = c.args.name.now in
     let h : 0 < length ns = omega (arith, c.counts.ensures.nodes, c.if-counts-eq0.false) in
-    let p = sym c.if-not-is-path.ensures in
-    let q = sym c.if-not-is-property-name.ensures in
+    let p = sym c.if-not-is_path.ensures in
+    let q = sym c.if-not-is_property_name.ensures in
     let f = c.in-Some.ensures in
     let i = c.in-Some.at.node in
     let l = f.0.inside in
-    let gone = found_none ns (g.T.Tape.mark t) (g.T.Tape.numbered t) i l name c.find-property.result c.find-property.ensures c.in-None-find-property.is in
+    let gone = found_none ns (g.T.Tape.mark t) (g.T.Tape.numbered t) i l name c.find_property.result c.find_property.ensures c.in-None-find_property.is in
     record { answer = unset-none boot ns v h path p name q i l f.1 gone; after = refl }
 
-pub remove-property-requires : goal.remove-property-requires
-remove-property-requires g c =
+pub remove_property-requires : goal.remove_property-requires
+remove_property-requires g c =
     let t = c.args.t.now in
     let ns = g.T.Tape.nodes t in
     let boot = g.T.Tape.boot t in
@@ -44,19 +43,19 @@ remove-property-requires g c =
     let path = c.args.path.now in
     let name = c.args.name.now in
     let h : 0 < length ns = omega (arith, c.counts.ensures.nodes, c.if-counts-eq0.false) in
-    let p = sym c.if-not-is-path.ensures in
-    let q = sym c.if-not-is-property-name.ensures in
+    let p = sym c.if-not-is_path.ensures in
+    let q = sym c.if-not-is_property_name.ensures in
     let f = c.in-Some.ensures in
     let i = c.in-Some.at.node in
     let l = f.0.inside in
-    let m = c.in-Some-find-property.m in
-    let fm = found-on ns (g.T.Tape.mark t) (g.T.Tape.numbered t) i l name c.find-property.result c.find-property.ensures m c.in-Some-find-property.is in
+    let m = c.in-Some-find_property.m in
+    let fm = found-on ns (g.T.Tape.mark t) (g.T.Tape.numbered t) i l name c.find_property.result c.find_property.ensures m c.in-Some-find_property.is in
     let k = m.number in
     let found = fm.2 in
     record { here = f.0; on = (fm.0, fm.1); sound = unset-valid boot ns v h path p name q i l f.1 k found }
 
-pub returns-in-Some-find-property : goal.returns-in-Some-find-property
-returns-in-Some-find-property g c =
+pub returns-in-Some-find_property : goal.returns-in-Some-find_property
+returns-in-Some-find_property g c =
     let t = c.args.t.now in
     let ns = g.T.Tape.nodes t in
     let boot = g.T.Tape.boot t in
@@ -64,16 +63,16 @@ returns-in-Some-find-property g c =
     let path = c.args.path.now in
     let name = c.args.name.now in
     let h : 0 < length ns = omega (arith, c.counts.ensures.nodes, c.if-counts-eq0.false) in
-    let p = sym c.if-not-is-path.ensures in
-    let q = sym c.if-not-is-property-name.ensures in
+    let p = sym c.if-not-is_path.ensures in
+    let q = sym c.if-not-is_property_name.ensures in
     let f = c.in-Some.ensures in
     let i = c.in-Some.at.node in
     let l = f.0.inside in
-    let m = c.in-Some-find-property.m in
-    let fm = found-on ns (g.T.Tape.mark t) (g.T.Tape.numbered t) i l name c.find-property.result c.find-property.ensures m c.in-Some-find-property.is in
+    let m = c.in-Some-find_property.m in
+    let fm = found-on ns (g.T.Tape.mark t) (g.T.Tape.numbered t) i l name c.find_property.result c.find_property.ensures m c.in-Some-find_property.is in
     let k = m.number in
     let found = fm.2 in
     record {
       answer = unset-done boot ns v h path p name q i l f.1 k found;
-      after = (λ j. meaning_of (c.remove-property.ensures.boot j) (c.remove-property.ensures.nodes j)) ∙ unset-after boot ns v h path p name q i l f.1 k found;
+      after = (λ j. meaning_of (c.remove_property.ensures.boot j) (c.remove_property.ensures.nodes j)) ∙ unset-after boot ns v h path p name q i l f.1 k found;
     }

@@ -1,4 +1,4 @@
-use Rattle.std.proofs.Common.{◌≡◌, ◌+◌, ◌<◌, ◌≤◌, ltb, length, sym, refl, ap, ◌∙◌, subst, arith}
+use Rattle.std.proofs.Common.{◌+◌, ltb, ap, ◌∙◌, arith}
 use Rattle.tape.specs.Tapes.{nth}
 use Rattle.tape.proofs.Outcomes.{busy-none, busy-next}
 use Rattle.tape.proofs.writes.is_busy.Goals as goal

@@ -1,6 +1,6 @@
-use Rattle.std.proofs.Common.{◌≡◌, ℕ, ◌+◌, ◌-◌, ◌<◌, ◌≤◌, ◌∷◌, length, set, None, sym, refl, ap, ◌∙◌, subst, arith, rules}
+use Rattle.std.proofs.Common.{◌≡◌, ◌-◌, ◌<◌, ◌≤◌, ◌∷◌, length, set, None, sym, refl, ap, ◌∙◌, subst, arith, rules}
 use Rattle.tape.specs.Nodes.{meaning_of, valid}
-use Rattle.tape.specs.Tapes.{properties_at, property_of, with_properties, less_property, property_fits, property_weight}
+use Rattle.tape.specs.Tapes.{properties_at, property_of, with_properties, property_fits, property_weight}
 use Rattle.tape.proofs.Looks.{look_missing, found-on, found_none}
 use Rattle.tape.proofs.Outcomes.{set-absent, name-short, new_limit, new-done, new-valid, new-after, old-short, old-weight, old-count, over_limit, over_done, over-valid, over-after, unset-valid, less-long, again-valid, again-after}
 use Rattle.tape.proofs.Sums.{within_limits}
@@ -15,12 +15,12 @@ returns-in-None g c =
     let path = c.args.path.now in
     let name = c.args.name.now in
     let h : 0 < length ns = omega (arith, c.counts-counts.ensures.nodes, c.if-counts-eq0.false) in
-    let p = sym c.if-not-is-path.ensures in
-    let q = sym c.if-not-is-property-name.ensures in
+    let p = sym c.if-not-is_path.ensures in
+    let q = sym c.if-not-is_property_name.ensures in
     record { answer = set-absent boot ns v h path p name q c.args.value.now (look_missing boot ns v path p c.in-None.ensures None); after = refl }
 
-pub property-fits-requires : goal.property-fits-requires
-property-fits-requires g c =
+pub property_fits-requires : goal.property_fits-requires
+property_fits-requires g c =
     let t = c.args.t.now in
     let ns = g.T.Tape.nodes t in
     let boot = g.T.Tape.boot t in
@@ -28,13 +28,13 @@ property-fits-requires g c =
     let path = c.args.path.now in
     let name = c.args.name.now in
     let h : 0 < length ns = omega (arith, c.counts-counts.ensures.nodes, c.if-counts-eq0.false) in
-    let p = sym c.if-not-is-path.ensures in
-    let q = sym c.if-not-is-property-name.ensures in
+    let p = sym c.if-not-is_path.ensures in
+    let q = sym c.if-not-is_property_name.ensures in
     let r = within_limits boot ns v in
     (omega (arith, r.1, c.counts-counts.ensures.properties), omega (arith, r.2, c.counts-counts.ensures.weight), omega (arith, name-short boot ns v h path p name q))
 
-pub returns-then-not-property-fits : goal.returns-then-not-property-fits
-returns-then-not-property-fits g c =
+pub returns-then-not-property_fits : goal.returns-then-not-property_fits
+returns-then-not-property_fits g c =
     let t = c.args.t.now in
     let ns = g.T.Tape.nodes t in
     let boot = g.T.Tape.boot t in
@@ -42,16 +42,16 @@ returns-then-not-property-fits g c =
     let path = c.args.path.now in
     let name = c.args.name.now in
     let h : 0 < length ns = omega (arith, c.counts-counts.ensures.nodes, c.if-counts-eq0.false) in
-    let p = sym c.if-not-is-path.ensures in
-    let q = sym c.if-not-is-property-name.ensures in
+    let p = sym c.if-not-is_path.ensures in
+    let q = sym c.if-not-is_property_name.ensures in
     let f = c.in-Some.ensures in
     let i = c.in-Some.at.node in
     let l = f.0.inside in
-    let gone = found_none ns (g.T.Tape.mark t) (g.T.Tape.numbered t) i l name c.find-property.result c.find-property.ensures c.in-None-find-property.is in
-    record { answer = new_limit boot ns v h path p name q i l f.1 gone c.counts-counts.result c.counts-counts.ensures c.args.value.now (sym c.if-not-property-fits.ensures); after = refl }
+    let gone = found_none ns (g.T.Tape.mark t) (g.T.Tape.numbered t) i l name c.find_property.result c.find_property.ensures c.in-None-find_property.is in
+    record { answer = new_limit boot ns v h path p name q i l f.1 gone c.counts-counts.result c.counts-counts.ensures c.args.value.now (sym c.if-not-property_fits.ensures); after = refl }
 
-pub insert-property-requires : goal.insert-property-requires
-insert-property-requires g c =
+pub insert_property-requires : goal.insert_property-requires
+insert_property-requires g c =
     let t = c.args.t.now in
     let ns = g.T.Tape.nodes t in
     let boot = g.T.Tape.boot t in
@@ -59,16 +59,16 @@ insert-property-requires g c =
     let path = c.args.path.now in
     let name = c.args.name.now in
     let h : 0 < length ns = omega (arith, c.counts-counts.ensures.nodes, c.if-counts-eq0.false) in
-    let p = sym c.if-not-is-path.ensures in
-    let q = sym c.if-not-is-property-name.ensures in
+    let p = sym c.if-not-is_path.ensures in
+    let q = sym c.if-not-is_property_name.ensures in
     let f = c.in-Some.ensures in
     let i = c.in-Some.at.node in
     let l = f.0.inside in
-    let gone = found_none ns (g.T.Tape.mark t) (g.T.Tape.numbered t) i l name c.find-property.result c.find-property.ensures c.in-None-find-property.is in
-    record { here = f.0; sound = new-valid boot ns v h path p name q i l f.1 gone c.counts-counts.result c.counts-counts.ensures c.args.value.now (sym c.if-not-property-fits.ensures) }
+    let gone = found_none ns (g.T.Tape.mark t) (g.T.Tape.numbered t) i l name c.find_property.result c.find_property.ensures c.in-None-find_property.is in
+    record { here = f.0; sound = new-valid boot ns v h path p name q i l f.1 gone c.counts-counts.result c.counts-counts.ensures c.args.value.now (sym c.if-not-property_fits.ensures) }
 
-pub returns-else-not-property-fits : goal.returns-else-not-property-fits
-returns-else-not-property-fits g c =
+pub returns-else-not-property_fits : goal.returns-else-not-property_fits
+returns-else-not-property_fits g c =
     let t = c.args.t.now in
     let ns = g.T.Tape.nodes t in
     let boot = g.T.Tape.boot t in
@@ -76,15 +76,15 @@ returns-else-not-property-fits g c =
     let path = c.args.path.now in
     let name = c.args.name.now in
     let h : 0 < length ns = omega (arith, c.counts-counts.ensures.nodes, c.if-counts-eq0.false) in
-    let p = sym c.if-not-is-path.ensures in
-    let q = sym c.if-not-is-property-name.ensures in
+    let p = sym c.if-not-is_path.ensures in
+    let q = sym c.if-not-is_property_name.ensures in
     let f = c.in-Some.ensures in
     let i = c.in-Some.at.node in
     let l = f.0.inside in
-    let gone = found_none ns (g.T.Tape.mark t) (g.T.Tape.numbered t) i l name c.find-property.result c.find-property.ensures c.in-None-find-property.is in
+    let gone = found_none ns (g.T.Tape.mark t) (g.T.Tape.numbered t) i l name c.find_property.result c.find_property.ensures c.in-None-find_property.is in
     record {
-      answer = new-done boot ns v h path p name q i l f.1 gone c.counts-counts.result c.counts-counts.ensures c.args.value.now (sym c.if-not-property-fits.ensures);
-      after = (λ j. meaning_of (c.insert-property.ensures.boot j) (c.insert-property.ensures.nodes j)) ∙ new-after boot ns v h path p name q i l f.1 gone c.counts-counts.result c.counts-counts.ensures c.args.value.now (sym c.if-not-property-fits.ensures);
+      answer = new-done boot ns v h path p name q i l f.1 gone c.counts-counts.result c.counts-counts.ensures c.args.value.now (sym c.if-not-property_fits.ensures);
+      after = (λ j. meaning_of (c.insert_property.ensures.boot j) (c.insert_property.ensures.nodes j)) ∙ new-after boot ns v h path p name q i l f.1 gone c.counts-counts.result c.counts-counts.ensures c.args.value.now (sym c.if-not-property_fits.ensures);
     }
 
 pub value-old-requires : goal.value-old-requires
@@ -96,19 +96,19 @@ value-old-requires g c =
     let path = c.args.path.now in
     let name = c.args.name.now in
     let h : 0 < length ns = omega (arith, c.counts-counts.ensures.nodes, c.if-counts-eq0.false) in
-    let p = sym c.if-not-is-path.ensures in
-    let q = sym c.if-not-is-property-name.ensures in
+    let p = sym c.if-not-is_path.ensures in
+    let q = sym c.if-not-is_property_name.ensures in
     let f = c.in-Some.ensures in
     let i = c.in-Some.at.node in
     let l = f.0.inside in
-    let m = c.in-Some-find-property.m in
-    let fm = found-on ns (g.T.Tape.mark t) (g.T.Tape.numbered t) i l name c.find-property.result c.find-property.ensures m c.in-Some-find-property.is in
+    let m = c.in-Some-find_property.m in
+    let fm = found-on ns (g.T.Tape.mark t) (g.T.Tape.numbered t) i l name c.find_property.result c.find_property.ensures m c.in-Some-find_property.is in
     let k = m.number in
     let found = fm.2 in
     fm.0
 
-pub property-weight-requires : goal.property-weight-requires
-property-weight-requires g c =
+pub property_weight-requires : goal.property_weight-requires
+property_weight-requires g c =
     let t = c.args.t.now in
     let ns = g.T.Tape.nodes t in
     let boot = g.T.Tape.boot t in
@@ -116,20 +116,20 @@ property-weight-requires g c =
     let path = c.args.path.now in
     let name = c.args.name.now in
     let h : 0 < length ns = omega (arith, c.counts-counts.ensures.nodes, c.if-counts-eq0.false) in
-    let p = sym c.if-not-is-path.ensures in
-    let q = sym c.if-not-is-property-name.ensures in
+    let p = sym c.if-not-is_path.ensures in
+    let q = sym c.if-not-is_property_name.ensures in
     let f = c.in-Some.ensures in
     let i = c.in-Some.at.node in
     let l = f.0.inside in
-    let m = c.in-Some-find-property.m in
-    let fm = found-on ns (g.T.Tape.mark t) (g.T.Tape.numbered t) i l name c.find-property.result c.find-property.ensures m c.in-Some-find-property.is in
+    let m = c.in-Some-find_property.m in
+    let fm = found-on ns (g.T.Tape.mark t) (g.T.Tape.numbered t) i l name c.find_property.result c.find_property.ensures m c.in-Some-find_property.is in
     let k = m.number in
     let found = fm.2 in
     let size : c.value-old.result.now ≡ (property_of ns i k).1 = c.value-old.ensures ∙ ap (λ j. (property_of ns j k).1) fm.1 in
     (omega (arith, name-short boot ns v h path p name q), omega (arith, ap length size, old-short boot ns v h path p name q i l f.1 k found))
 
-pub overflow-sub-rest : goal.overflow-sub-rest
-overflow-sub-rest g c =
+pub overflow_sub-rest : goal.overflow_sub-rest
+overflow_sub-rest g c =
     let t = c.args.t.now in
     let ns = g.T.Tape.nodes t in
     let boot = g.T.Tape.boot t in
@@ -137,22 +137,22 @@ overflow-sub-rest g c =
     let path = c.args.path.now in
     let name = c.args.name.now in
     let h : 0 < length ns = omega (arith, c.counts-counts.ensures.nodes, c.if-counts-eq0.false) in
-    let p = sym c.if-not-is-path.ensures in
-    let q = sym c.if-not-is-property-name.ensures in
+    let p = sym c.if-not-is_path.ensures in
+    let q = sym c.if-not-is_property_name.ensures in
     let f = c.in-Some.ensures in
     let i = c.in-Some.at.node in
     let l = f.0.inside in
-    let m = c.in-Some-find-property.m in
-    let fm = found-on ns (g.T.Tape.mark t) (g.T.Tape.numbered t) i l name c.find-property.result c.find-property.ensures m c.in-Some-find-property.is in
+    let m = c.in-Some-find_property.m in
+    let fm = found-on ns (g.T.Tape.mark t) (g.T.Tape.numbered t) i l name c.find_property.result c.find_property.ensures m c.in-Some-find_property.is in
     let k = m.number in
     let found = fm.2 in
     let size : c.value-old.result.now ≡ (property_of ns i k).1 = c.value-old.ensures ∙ ap (λ j. (property_of ns j k).1) fm.1 in
-    let w = c.property-weight.ensures ∙ ap (λ x. property_weight (length name) (length x)) size in
-    let b : c.property-weight.result ≤ c.counts-counts.result.weight = subst (λ x. x ≤ c.counts-counts.result.weight) (sym w) (old-weight boot ns v h path p name q i l f.1 k found c.counts-counts.result c.counts-counts.ensures) in
+    let w = c.property_weight.ensures ∙ ap (λ x. property_weight (length name) (length x)) size in
+    let b : c.property_weight.result ≤ c.counts-counts.result.weight = subst (λ x. x ≤ c.counts-counts.result.weight) (sym w) (old-weight boot ns v h path p name q i l f.1 k found c.counts-counts.result c.counts-counts.ensures) in
     search rules
 
-pub overflow-sub-counts : goal.overflow-sub-counts
-overflow-sub-counts g c =
+pub overflow_sub-counts : goal.overflow_sub-counts
+overflow_sub-counts g c =
     let t = c.args.t.now in
     let ns = g.T.Tape.nodes t in
     let boot = g.T.Tape.boot t in
@@ -160,20 +160,20 @@ overflow-sub-counts g c =
     let path = c.args.path.now in
     let name = c.args.name.now in
     let h : 0 < length ns = omega (arith, c.counts-counts.ensures.nodes, c.if-counts-eq0.false) in
-    let p = sym c.if-not-is-path.ensures in
-    let q = sym c.if-not-is-property-name.ensures in
+    let p = sym c.if-not-is_path.ensures in
+    let q = sym c.if-not-is_property_name.ensures in
     let f = c.in-Some.ensures in
     let i = c.in-Some.at.node in
     let l = f.0.inside in
-    let m = c.in-Some-find-property.m in
-    let fm = found-on ns (g.T.Tape.mark t) (g.T.Tape.numbered t) i l name c.find-property.result c.find-property.ensures m c.in-Some-find-property.is in
+    let m = c.in-Some-find_property.m in
+    let fm = found-on ns (g.T.Tape.mark t) (g.T.Tape.numbered t) i l name c.find_property.result c.find_property.ensures m c.in-Some-find_property.is in
     let k = m.number in
     let found = fm.2 in
     let b : 1 ≤ c.counts-counts.result.properties = old-count boot ns v h path p name q i l f.1 k found c.counts-counts.result c.counts-counts.ensures in
     search rules
 
-pub property-fits-requires-in-Some-find-property : goal.property-fits-requires-in-Some-find-property
-property-fits-requires-in-Some-find-property g c =
+pub property_fits-requires-in-Some-find_property : goal.property_fits-requires-in-Some-find_property
+property_fits-requires-in-Some-find_property g c =
     let t = c.args.t.now in
     let ns = g.T.Tape.nodes t in
     let boot = g.T.Tape.boot t in
@@ -181,13 +181,13 @@ property-fits-requires-in-Some-find-property g c =
     let path = c.args.path.now in
     let name = c.args.name.now in
     let h : 0 < length ns = omega (arith, c.counts-counts.ensures.nodes, c.if-counts-eq0.false) in
-    let p = sym c.if-not-is-path.ensures in
-    let q = sym c.if-not-is-property-name.ensures in
+    let p = sym c.if-not-is_path.ensures in
+    let q = sym c.if-not-is_property_name.ensures in
     let r = within_limits boot ns v in
     (omega (arith, r.1, c.counts-counts.ensures.properties), omega (arith, r.2, c.counts-counts.ensures.weight), omega (arith, name-short boot ns v h path p name q))
 
-pub returns-then-not-property-fits-2 : goal.returns-then-not-property-fits-2
-returns-then-not-property-fits-2 g c =
+pub returns-then-not-property_fits-2 : goal.returns-then-not-property_fits-2
+returns-then-not-property_fits-2 g c =
     let t = c.args.t.now in
     let ns = g.T.Tape.nodes t in
     let boot = g.T.Tape.boot t in
@@ -195,18 +195,18 @@ returns-then-not-property-fits-2 g c =
     let path = c.args.path.now in
     let name = c.args.name.now in
     let h : 0 < length ns = omega (arith, c.counts-counts.ensures.nodes, c.if-counts-eq0.false) in
-    let p = sym c.if-not-is-path.ensures in
-    let q = sym c.if-not-is-property-name.ensures in
+    let p = sym c.if-not-is_path.ensures in
+    let q = sym c.if-not-is_property_name.ensures in
     let f = c.in-Some.ensures in
     let i = c.in-Some.at.node in
     let l = f.0.inside in
-    let m = c.in-Some-find-property.m in
-    let fm = found-on ns (g.T.Tape.mark t) (g.T.Tape.numbered t) i l name c.find-property.result c.find-property.ensures m c.in-Some-find-property.is in
+    let m = c.in-Some-find_property.m in
+    let fm = found-on ns (g.T.Tape.mark t) (g.T.Tape.numbered t) i l name c.find_property.result c.find_property.ensures m c.in-Some-find_property.is in
     let k = m.number in
     let found = fm.2 in
     let size : c.value-old.result.now ≡ (property_of ns i k).1 = c.value-old.ensures ∙ ap (λ j. (property_of ns j k).1) fm.1 in
-    let left : c.counts-counts.result.weight - c.property-weight.result ≡ c.counts-counts.result.weight - property_weight (length name) (length (property_of ns i k).1) = ap (λ x. c.counts-counts.result.weight - x) (c.property-weight.ensures ∙ ap (λ x. property_weight (length name) (length x)) size) in
-    let no = ap (λ x. property_fits (c.counts-counts.result.properties - 1) x (length name) (length c.args.value.now)) (sym left) ∙ sym c.if-not-property-fits-2.ensures in
+    let left : c.counts-counts.result.weight - c.property_weight.result ≡ c.counts-counts.result.weight - property_weight (length name) (length (property_of ns i k).1) = ap (λ x. c.counts-counts.result.weight - x) (c.property_weight.ensures ∙ ap (λ x. property_weight (length name) (length x)) size) in
+    let no = ap (λ x. property_fits (c.counts-counts.result.properties - 1) x (length name) (length c.args.value.now)) (sym left) ∙ sym c.if-not-property_fits-2.ensures in
     record { answer = over_limit boot ns v h path p name q i l f.1 k found c.counts-counts.result c.counts-counts.ensures c.args.value.now no; after = refl }
 
 pub overwrite-requires : goal.overwrite-requires
@@ -218,18 +218,18 @@ overwrite-requires g c =
     let path = c.args.path.now in
     let name = c.args.name.now in
     let h : 0 < length ns = omega (arith, c.counts-counts.ensures.nodes, c.if-counts-eq0.false) in
-    let p = sym c.if-not-is-path.ensures in
-    let q = sym c.if-not-is-property-name.ensures in
+    let p = sym c.if-not-is_path.ensures in
+    let q = sym c.if-not-is_property_name.ensures in
     let f = c.in-Some.ensures in
     let i = c.in-Some.at.node in
     let l = f.0.inside in
-    let m = c.in-Some-find-property.m in
-    let fm = found-on ns (g.T.Tape.mark t) (g.T.Tape.numbered t) i l name c.find-property.result c.find-property.ensures m c.in-Some-find-property.is in
+    let m = c.in-Some-find_property.m in
+    let fm = found-on ns (g.T.Tape.mark t) (g.T.Tape.numbered t) i l name c.find_property.result c.find_property.ensures m c.in-Some-find_property.is in
     let k = m.number in
     let found = fm.2 in
     let size : c.value-old.result.now ≡ (property_of ns i k).1 = c.value-old.ensures ∙ ap (λ j. (property_of ns j k).1) fm.1 in
-    let left : c.counts-counts.result.weight - c.property-weight.result ≡ c.counts-counts.result.weight - property_weight (length name) (length (property_of ns i k).1) = ap (λ x. c.counts-counts.result.weight - x) (c.property-weight.ensures ∙ ap (λ x. property_weight (length name) (length x)) size) in
-    let yes = ap (λ x. property_fits (c.counts-counts.result.properties - 1) x (length name) (length c.args.value.now)) (sym left) ∙ sym c.if-not-property-fits-2.ensures in
+    let left : c.counts-counts.result.weight - c.property_weight.result ≡ c.counts-counts.result.weight - property_weight (length name) (length (property_of ns i k).1) = ap (λ x. c.counts-counts.result.weight - x) (c.property_weight.ensures ∙ ap (λ x. property_weight (length name) (length x)) size) in
+    let yes = ap (λ x. property_fits (c.counts-counts.result.properties - 1) x (length name) (length c.args.value.now)) (sym left) ∙ sym c.if-not-property_fits-2.ensures in
     let u = c.args.value.now in
     record {
       on = fm.0;
@@ -246,26 +246,26 @@ returns-then-old-value g c =
     let path = c.args.path.now in
     let name = c.args.name.now in
     let h : 0 < length ns = omega (arith, c.counts-counts.ensures.nodes, c.if-counts-eq0.false) in
-    let p = sym c.if-not-is-path.ensures in
-    let q = sym c.if-not-is-property-name.ensures in
+    let p = sym c.if-not-is_path.ensures in
+    let q = sym c.if-not-is_property_name.ensures in
     let f = c.in-Some.ensures in
     let i = c.in-Some.at.node in
     let l = f.0.inside in
-    let m = c.in-Some-find-property.m in
-    let fm = found-on ns (g.T.Tape.mark t) (g.T.Tape.numbered t) i l name c.find-property.result c.find-property.ensures m c.in-Some-find-property.is in
+    let m = c.in-Some-find_property.m in
+    let fm = found-on ns (g.T.Tape.mark t) (g.T.Tape.numbered t) i l name c.find_property.result c.find_property.ensures m c.in-Some-find_property.is in
     let k = m.number in
     let found = fm.2 in
     let size : c.value-old.result.now ≡ (property_of ns i k).1 = c.value-old.ensures ∙ ap (λ j. (property_of ns j k).1) fm.1 in
-    let left : c.counts-counts.result.weight - c.property-weight.result ≡ c.counts-counts.result.weight - property_weight (length name) (length (property_of ns i k).1) = ap (λ x. c.counts-counts.result.weight - x) (c.property-weight.ensures ∙ ap (λ x. property_weight (length name) (length x)) size) in
-    let yes = ap (λ x. property_fits (c.counts-counts.result.properties - 1) x (length name) (length c.args.value.now)) (sym left) ∙ sym c.if-not-property-fits-2.ensures in
+    let left : c.counts-counts.result.weight - c.property_weight.result ≡ c.counts-counts.result.weight - property_weight (length name) (length (property_of ns i k).1) = ap (λ x. c.counts-counts.result.weight - x) (c.property_weight.ensures ∙ ap (λ x. property_weight (length name) (length x)) size) in
+    let yes = ap (λ x. property_fits (c.counts-counts.result.properties - 1) x (length name) (length c.args.value.now)) (sym left) ∙ sym c.if-not-property_fits-2.ensures in
     let u = c.args.value.now in
     record {
       answer = over_done boot ns v h path p name q i l f.1 k found c.counts-counts.result c.counts-counts.ensures u yes;
       after = (λ j. meaning_of (c.overwrite.ensures.boot j) (c.overwrite.ensures.nodes j)) ∙ ap (λ j. meaning_of boot (with_properties ns j (set (properties_at ns j) k ((property_of ns j k).0, u)))) fm.1 ∙ over-after boot ns v h path p name q i l f.1 k found c.counts-counts.result c.counts-counts.ensures u yes;
     }
 
-pub remove-property-requires : goal.remove-property-requires
-remove-property-requires g c =
+pub remove_property-requires : goal.remove_property-requires
+remove_property-requires g c =
     let t = c.args.t.now in
     let ns = g.T.Tape.nodes t in
     let boot = g.T.Tape.boot t in
@@ -273,19 +273,19 @@ remove-property-requires g c =
     let path = c.args.path.now in
     let name = c.args.name.now in
     let h : 0 < length ns = omega (arith, c.counts-counts.ensures.nodes, c.if-counts-eq0.false) in
-    let p = sym c.if-not-is-path.ensures in
-    let q = sym c.if-not-is-property-name.ensures in
+    let p = sym c.if-not-is_path.ensures in
+    let q = sym c.if-not-is_property_name.ensures in
     let f = c.in-Some.ensures in
     let i = c.in-Some.at.node in
     let l = f.0.inside in
-    let m = c.in-Some-find-property.m in
-    let fm = found-on ns (g.T.Tape.mark t) (g.T.Tape.numbered t) i l name c.find-property.result c.find-property.ensures m c.in-Some-find-property.is in
+    let m = c.in-Some-find_property.m in
+    let fm = found-on ns (g.T.Tape.mark t) (g.T.Tape.numbered t) i l name c.find_property.result c.find_property.ensures m c.in-Some-find_property.is in
     let k = m.number in
     let found = fm.2 in
     record { here = f.0; on = (fm.0, fm.1); sound = unset-valid boot ns v h path p name q i l f.1 k found }
 
-pub insert-property-requires-in-Some-find-property : goal.insert-property-requires-in-Some-find-property
-insert-property-requires-in-Some-find-property g c =
+pub insert_property-requires-in-Some-find_property : goal.insert_property-requires-in-Some-find_property
+insert_property-requires-in-Some-find_property g c =
     let t = c.args.t.now in
     let ns = g.T.Tape.nodes t in
     let boot = g.T.Tape.boot t in
@@ -293,20 +293,20 @@ insert-property-requires-in-Some-find-property g c =
     let path = c.args.path.now in
     let name = c.args.name.now in
     let h : 0 < length ns = omega (arith, c.counts-counts.ensures.nodes, c.if-counts-eq0.false) in
-    let p = sym c.if-not-is-path.ensures in
-    let q = sym c.if-not-is-property-name.ensures in
+    let p = sym c.if-not-is_path.ensures in
+    let q = sym c.if-not-is_property_name.ensures in
     let f = c.in-Some.ensures in
     let i = c.in-Some.at.node in
     let l = f.0.inside in
-    let m = c.in-Some-find-property.m in
-    let fm = found-on ns (g.T.Tape.mark t) (g.T.Tape.numbered t) i l name c.find-property.result c.find-property.ensures m c.in-Some-find-property.is in
+    let m = c.in-Some-find_property.m in
+    let fm = found-on ns (g.T.Tape.mark t) (g.T.Tape.numbered t) i l name c.find_property.result c.find_property.ensures m c.in-Some-find_property.is in
     let k = m.number in
     let found = fm.2 in
     let size : c.value-old.result.now ≡ (property_of ns i k).1 = c.value-old.ensures ∙ ap (λ j. (property_of ns j k).1) fm.1 in
-    let left : c.counts-counts.result.weight - c.property-weight.result ≡ c.counts-counts.result.weight - property_weight (length name) (length (property_of ns i k).1) = ap (λ x. c.counts-counts.result.weight - x) (c.property-weight.ensures ∙ ap (λ x. property_weight (length name) (length x)) size) in
-    let yes = ap (λ x. property_fits (c.counts-counts.result.properties - 1) x (length name) (length c.args.value.now)) (sym left) ∙ sym c.if-not-property-fits-2.ensures in
+    let left : c.counts-counts.result.weight - c.property_weight.result ≡ c.counts-counts.result.weight - property_weight (length name) (length (property_of ns i k).1) = ap (λ x. c.counts-counts.result.weight - x) (c.property_weight.ensures ∙ ap (λ x. property_weight (length name) (length x)) size) in
+    let yes = ap (λ x. property_fits (c.counts-counts.result.properties - 1) x (length name) (length c.args.value.now)) (sym left) ∙ sym c.if-not-property_fits-2.ensures in
     let u = c.args.value.now in
-    let e = c.remove-property.ensures in
+    let e = c.remove_property.ensures in
     record {
       here = record { inside = subst (λ x. i < length x) (sym e.nodes) (less-long boot ns v h path p name q i l f.1 k found c.counts-counts.result c.counts-counts.ensures u yes); is = f.0.is ∙ sym e.same };
       sound = (λ j. valid (e.boot j) (with_properties (e.nodes j) i ((name, u) ∷ properties_at (e.nodes j) i))) ∙ again-valid boot ns v h path p name q i l f.1 k found c.counts-counts.result c.counts-counts.ensures u yes;
@@ -321,21 +321,21 @@ returns-else-old-value g c =
     let path = c.args.path.now in
     let name = c.args.name.now in
     let h : 0 < length ns = omega (arith, c.counts-counts.ensures.nodes, c.if-counts-eq0.false) in
-    let p = sym c.if-not-is-path.ensures in
-    let q = sym c.if-not-is-property-name.ensures in
+    let p = sym c.if-not-is_path.ensures in
+    let q = sym c.if-not-is_property_name.ensures in
     let f = c.in-Some.ensures in
     let i = c.in-Some.at.node in
     let l = f.0.inside in
-    let m = c.in-Some-find-property.m in
-    let fm = found-on ns (g.T.Tape.mark t) (g.T.Tape.numbered t) i l name c.find-property.result c.find-property.ensures m c.in-Some-find-property.is in
+    let m = c.in-Some-find_property.m in
+    let fm = found-on ns (g.T.Tape.mark t) (g.T.Tape.numbered t) i l name c.find_property.result c.find_property.ensures m c.in-Some-find_property.is in
     let k = m.number in
     let found = fm.2 in
     let size : c.value-old.result.now ≡ (property_of ns i k).1 = c.value-old.ensures ∙ ap (λ j. (property_of ns j k).1) fm.1 in
-    let left : c.counts-counts.result.weight - c.property-weight.result ≡ c.counts-counts.result.weight - property_weight (length name) (length (property_of ns i k).1) = ap (λ x. c.counts-counts.result.weight - x) (c.property-weight.ensures ∙ ap (λ x. property_weight (length name) (length x)) size) in
-    let yes = ap (λ x. property_fits (c.counts-counts.result.properties - 1) x (length name) (length c.args.value.now)) (sym left) ∙ sym c.if-not-property-fits-2.ensures in
+    let left : c.counts-counts.result.weight - c.property_weight.result ≡ c.counts-counts.result.weight - property_weight (length name) (length (property_of ns i k).1) = ap (λ x. c.counts-counts.result.weight - x) (c.property_weight.ensures ∙ ap (λ x. property_weight (length name) (length x)) size) in
+    let yes = ap (λ x. property_fits (c.counts-counts.result.properties - 1) x (length name) (length c.args.value.now)) (sym left) ∙ sym c.if-not-property_fits-2.ensures in
     let u = c.args.value.now in
-    let e = c.remove-property.ensures in
-    let d = c.insert-property-in-Some-find-property.ensures in
+    let e = c.remove_property.ensures in
+    let d = c.insert_property-in-Some-find_property.ensures in
     let b = d.boot ∙ e.boot in
     let n = d.nodes ∙ (λ j. with_properties (e.nodes j) i ((name, u) ∷ properties_at (e.nodes j) i)) in
     record {

@@ -1,7 +1,6 @@
-use Rattle.std.proofs.Common.{◌≡◌, sym, refl, ap, ◌∙◌}
-use Rattle.live.proofs.Flat.{whole_from, spot_stays}
+use Rattle.live.proofs.Flat.{whole_from}
 use Rattle.live.proofs.Kept.{counts_are}
-use Rattle.live.proofs.store.LiveTape.counts.Goals as goal
+use Rattle.live.proofs.live_store.LiveTape.counts.Goals as goal
 
 pub returns : goal.returns
 returns c =

@@ -3,7 +3,7 @@ ghost use Rattle.live.specs.Records.{held};
 ghost use Rattle.tape.specs.Nodes.{meaning_of};
 ghost use Rattle.tape.proofs.Sounds.{good-from};
 
-use crate::store::Live;
+use crate::live_store::Live;
 use store::{Readable, Refusal, Store};
 use tape::{questions, writes};
 

@@ -1,0 +1,8 @@
+use Rattle.live.proofs.Flat.{whole_from}
+use Rattle.live.proofs.live_store.LiveTape.head.Goals as goal
+
+pub head_at-requires : goal.head_at-requires
+head_at-requires c =
+    let s = c.args.self.now in
+    let w = whole_from s.memory s.nodes_in s.properties_in s.size_in s.rows s.cells s.bytes s.weight s.room s.sound in
+    record { whole = w; here = c.requires }

@@ -1,0 +1,8 @@
+use Rattle.live.proofs.Flat.{whole_from}
+use Rattle.live.proofs.live_store.LiveTape.overwrite.Goals as goal
+
+pub write_value-requires : goal.write_value-requires
+write_value-requires c =
+    let s = c.args.self.now in
+    let w = whole_from s.memory s.nodes_in s.properties_in s.size_in s.rows s.cells s.bytes s.weight s.room s.sound in
+    record { whole = w; on = c.requires.on; length = c.requires.length; sound = c.requires.sound }

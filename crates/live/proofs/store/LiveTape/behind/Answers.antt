@@ -1,9 +1,0 @@
-use Rattle.std.proofs.Common.{◌≡◌, sym, refl, ap, ◌∙◌}
-use Rattle.live.proofs.Flat.{whole_from, spot_stays}
-use Rattle.live.proofs.store.LiveTape.behind.Goals as goal
-
-pub mark-behind-requires : goal.mark-behind-requires
-mark-behind-requires c =
-    let s = c.args.self.now in
-    let w = whole_from s.memory s.nodes_in s.properties_in s.size_in s.rows s.cells s.bytes s.weight s.room s.sound in
-    record { whole = w; on = c.requires }

@@ -1,9 +1,0 @@
-use Rattle.std.proofs.Common.{◌≡◌, sym, refl, ap, ◌∙◌}
-use Rattle.live.proofs.Flat.{whole_from, spot_stays}
-use Rattle.live.proofs.store.LiveTape.head.Goals as goal
-
-pub head-at-requires : goal.head-at-requires
-head-at-requires c =
-    let s = c.args.self.now in
-    let w = whole_from s.memory s.nodes_in s.properties_in s.size_in s.rows s.cells s.bytes s.weight s.room s.sound in
-    record { whole = w; here = c.requires }

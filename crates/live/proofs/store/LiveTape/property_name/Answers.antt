@@ -1,9 +1,0 @@
-use Rattle.std.proofs.Common.{◌≡◌, sym, refl, ap, ◌∙◌}
-use Rattle.live.proofs.Flat.{whole_from, spot_stays}
-use Rattle.live.proofs.store.LiveTape.property_name.Goals as goal
-
-pub property-name-at-requires : goal.property-name-at-requires
-property-name-at-requires c =
-    let s = c.args.self.now in
-    let w = whole_from s.memory s.nodes_in s.properties_in s.size_in s.rows s.cells s.bytes s.weight s.room s.sound in
-    record { whole = w; on = c.requires }
