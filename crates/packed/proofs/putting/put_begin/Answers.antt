@@ -17,7 +17,7 @@ returns c =
     let la = a.1 in
     let b = grow c.put32.new.xs c.put.new.xs name (u + 4) (u + 4 + length name) c.put.ensures (omega arith) refl in
     let lb = b.1 in
-    let d = grow c.put.new.xs c.put-zeros.new.xs (replicate z 0) (u + 4 + length name) (u + (4 + pad4 (length name + 1))) c.put-zeros.ensures (omega arith) (omega arith) in
+    let d = grow c.put.new.xs c.put_zeros.new.xs (replicate z 0) (u + 4 + length name) (u + (4 + pad4 (length name + 1))) c.put_zeros.ensures (omega arith) (omega arith) in
     d.0 ∙ ap (λ v. v ++ replicate z 0) (b.0 ∙ ap (λ v. v ++ name) a.0)
     ∙ append_assoc (take u m ++ bytes32 1) name (replicate z 0)
     ∙ append_assoc (take u m) (bytes32 1) (name ++ replicate z 0)

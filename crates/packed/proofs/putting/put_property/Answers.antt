@@ -23,7 +23,7 @@ returns c =
     let ld = d.1 in
     let e = grow c.put32-3.new.xs c.put.new.xs v (u + 12) (u + 12 + length v) c.put.ensures (omega arith) refl in
     let le = e.1 in
-    let f = grow c.put.new.xs c.put-zeros.new.xs (replicate z 0) (u + 12 + length v) (u + (12 + pad4 (length v))) c.put-zeros.ensures (omega arith) (omega arith) in
+    let f = grow c.put.new.xs c.put_zeros.new.xs (replicate z 0) (u + 12 + length v) (u + (12 + pad4 (length v))) c.put_zeros.ensures (omega arith) (omega arith) in
     let zz : z ≡ pad4 (length v) - length v = omega arith in
     f.0 ∙ ap (λ t. t ++ replicate z 0) (e.0 ∙ ap (λ t. t ++ v) (d.0 ∙ ap (λ t. t ++ bytes32 k) (b.0 ∙ ap (λ t. t ++ bytes32 (length v)) a.0)))
     ∙ append_assoc (((take u m ++ bytes32 3) ++ bytes32 (length v)) ++ bytes32 k) v (replicate z 0)

@@ -10,5 +10,5 @@ returns c =
     let r = c.requires.0 in
     let a = grow m c.put.new.xs name u (u + length name) c.put.ensures (omega arith) refl in
     let la = a.1 in
-    let b = grow c.put.new.xs c.put-zeros.new.xs (0 ∷ []) (u + length name) (u + (length name + 1)) c.put-zeros.ensures (omega arith) (omega arith) in
+    let b = grow c.put.new.xs c.put_zeros.new.xs (0 ∷ []) (u + length name) (u + (length name + 1)) c.put_zeros.ensures (omega arith) (omega arith) in
     b.0 ∙ ap (λ z. z ++ (0 ∷ [])) a.0 ∙ append_assoc (take u m) name (0 ∷ [])

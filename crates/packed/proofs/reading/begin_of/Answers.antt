@@ -66,14 +66,14 @@ loop-at-init c s h a p =
     let z = size-ends (s.property - c.args.s.property) in
     (omega arith, omega arith, omega arith)
 
-pub word-at-requires : goal.word-at-requires
-word-at-requires c = (room c.args.x.now c.requires.opened c.args.s c.requires.here c.loop-at.at c.loop-at.depth (c.loop-at.invariant c.args.s c.requires.here refl refl)).0
+pub word_at-requires : goal.word_at-requires
+word_at-requires c = (room c.args.x.now c.requires.opened c.args.s c.requires.here c.loop-at.at c.loop-at.depth (c.loop-at.invariant c.args.s c.requires.here refl refl)).0
 
-pub overflow-add-at : goal.overflow-add-at
-overflow-add-at c = let r = (room c.args.x.now c.requires.opened c.args.s c.requires.here c.loop-at.at c.loop-at.depth (c.loop-at.invariant c.args.s c.requires.here refl refl)).1 in omega arith
+pub overflow_add-at : goal.overflow_add-at
+overflow_add-at c = let r = (room c.args.x.now c.requires.opened c.args.s c.requires.here c.loop-at.at c.loop-at.depth (c.loop-at.invariant c.args.s c.requires.here refl refl)).1 in omega arith
 
-pub overflow-sub-depth : goal.overflow-sub-depth
-overflow-sub-depth c = let r = more c.args.x.now c.requires.opened c.args.s c.requires.here c.loop-at.at c.loop-at.depth (c.loop-at.invariant c.args.s c.requires.here refl refl) (omega arith) in omega arith
+pub overflow_sub-depth : goal.overflow_sub-depth
+overflow_sub-depth c = let r = more c.args.x.now c.requires.opened c.args.s c.requires.here c.loop-at.at c.loop-at.depth (c.loop-at.invariant c.args.s c.requires.here refl refl) (omega arith) in omega arith
 
 pub loop-at-smaller : goal.loop-at-smaller
 loop-at-smaller c = let r = more c.args.x.now c.requires.opened c.args.s c.requires.here c.loop-at.at c.loop-at.depth (c.loop-at.invariant c.args.s c.requires.here refl refl) (omega arith) in omega arith
@@ -84,5 +84,5 @@ loop-at-preserved c s h a p = again c.args.x.now c.requires.opened s h c.loop-at
 pub returns : goal.returns
 returns c =
     let i = c.loop-at.invariant c.args.s c.requires.here refl refl in
-    let e = last c.args.x.now c.requires.opened c.args.s c.requires.here c.loop-at.at c.loop-at.depth i (λ k. c.loop-at-test.false (c.word-at.ensures ∙ k)) in
+    let e = last c.args.x.now c.requires.opened c.args.s c.requires.here c.loop-at.at c.loop-at.depth i (λ k. c.loop-at-test.false (c.word_at.ensures ∙ k)) in
     record { depth = e; at = done c.args.x.now c.requires.opened c.args.s c.requires.here c.loop-at.at c.loop-at.depth i e }

@@ -30,26 +30,26 @@ returns-then-x-eq0 c =
     let e = closed_none c.args.x.now c.if-x-eq0.true in
     record { nodes = ap length (sym e); properties = ap properties_of (sym e); weight = ap weight_of (sym e) }
 
-pub overflow-mul-tokens : goal.overflow-mul-tokens
-overflow-mul-tokens c = let f = (few c.args.x.now (opened_some c.args.x.now c.requires c.if-x-eq0.false)).0 in omega arith
+pub overflow_mul-tokens : goal.overflow_mul-tokens
+overflow_mul-tokens c = let f = (few c.args.x.now (opened_some c.args.x.now c.requires c.if-x-eq0.false)).0 in omega arith
 
-pub overflow-add-tokens : goal.overflow-add-tokens
-overflow-add-tokens c = let f = (few c.args.x.now (opened_some c.args.x.now c.requires c.if-x-eq0.false)).0 in omega arith
+pub overflow_add-tokens : goal.overflow_add-tokens
+overflow_add-tokens c = let f = (few c.args.x.now (opened_some c.args.x.now c.requires c.if-x-eq0.false)).0 in omega arith
 
-pub overflow-mul-tokens-2 : goal.overflow-mul-tokens-2
-overflow-mul-tokens-2 c = let f = (few c.args.x.now (opened_some c.args.x.now c.requires c.if-x-eq0.false)).1 in omega arith
+pub overflow_mul-tokens-2 : goal.overflow_mul-tokens-2
+overflow_mul-tokens-2 c = let f = (few c.args.x.now (opened_some c.args.x.now c.requires c.if-x-eq0.false)).1 in omega arith
 
-pub overflow-add-tokens-2 : goal.overflow-add-tokens-2
-overflow-add-tokens-2 c =
+pub overflow_add-tokens-2 : goal.overflow_add-tokens-2
+overflow_add-tokens-2 c =
     let f = (few c.args.x.now (opened_some c.args.x.now c.requires c.if-x-eq0.false)).0 in
     let g = (few c.args.x.now (opened_some c.args.x.now c.requires c.if-x-eq0.false)).1 in
     omega arith
 
-pub overflow-add-result : goal.overflow-add-result
-overflow-add-result c = let s = small c.args.x.now (opened_some c.args.x.now c.requires c.if-x-eq0.false) in omega arith
+pub overflow_add-result : goal.overflow_add-result
+overflow_add-result c = let s = small c.args.x.now (opened_some c.args.x.now c.requires c.if-x-eq0.false) in omega arith
 
-pub overflow-sub-result : goal.overflow-sub-result
-overflow-sub-result c = let w = weighs c.args.x.now (opened_some c.args.x.now c.requires c.if-x-eq0.false) in omega arith
+pub overflow_sub-result : goal.overflow_sub-result
+overflow_sub-result c = let w = weighs c.args.x.now (opened_some c.args.x.now c.requires c.if-x-eq0.false) in omega arith
 
 pub returns : goal.returns
 returns c =

@@ -21,51 +21,51 @@ module _ (x : Region) (o : Open x) (i : ℕ) (l : i < length (nodes_of x)) where
   unfolding first_of
   from_is b n r eb en er = let p = ap (λ k. pad4 (k + 1)) en in omega arith
 
-pub overflow-add-from : goal.overflow-add-from
-overflow-add-from c =
+pub overflow_add-from : goal.overflow_add-from
+overflow_add-from c =
     let r = (name-room c.args.x.now c.requires.opened c.args.s.node c.requires.here.inside).0 in
     let q = (name-room c.args.x.now c.requires.opened c.args.s.node c.requires.here.inside).2 in
-    let e = c.begin-of-b.ensures.at in
+    let e = c.begin_of-b.ensures.at in
     omega arith
 
-pub overflow-add-n : goal.overflow-add-n
-overflow-add-n c =
+pub overflow_add-n : goal.overflow_add-n
+overflow_add-n c =
     let r = (name-room c.args.x.now c.requires.opened c.args.s.node c.requires.here.inside).0 in
     let q = (name-room c.args.x.now c.requires.opened c.args.s.node c.requires.here.inside).2 in
-    let e = c.name-length-n.ensures in
+    let e = c.name_length-n.ensures in
     omega arith
 
 pub rounded4-requires : goal.rounded4-requires
 rounded4-requires c =
     let r = (name-room c.args.x.now c.requires.opened c.args.s.node c.requires.here.inside).0 in
     let q = (name-room c.args.x.now c.requires.opened c.args.s.node c.requires.here.inside).2 in
-    let e = c.name-length-n.ensures in
+    let e = c.name_length-n.ensures in
     omega arith
 
-pub overflow-add-from-2 : goal.overflow-add-from-2
-overflow-add-from-2 c =
+pub overflow_add-from-2 : goal.overflow_add-from-2
+overflow_add-from-2 c =
     let r = (name-room c.args.x.now c.requires.opened c.args.s.node c.requires.here.inside).0 in
     let q = (name-room c.args.x.now c.requires.opened c.args.s.node c.requires.here.inside).2 in
-    let e = c.begin-of-b.ensures.at in
-    let p = ap (λ k. pad4 (k + 1)) c.name-length-n.ensures in
+    let e = c.begin_of-b.ensures.at in
+    let p = ap (λ k. pad4 (k + 1)) c.name_length-n.ensures in
     let w = c.rounded4.ensures in
     omega arith
 
-pub run-of-run-requires : goal.run-of-run-requires
-run-of-run-requires c =
+pub run_of-run-requires : goal.run_of-run-requires
+run_of-run-requires c =
     record {
       opened = c.requires.opened;
       here = c.requires.here;
-      from = from_is c.args.x.now c.requires.opened c.args.s.node c.requires.here.inside c.begin-of-b.result.at c.name-length-n.result c.rounded4.result c.begin-of-b.ensures.at c.name-length-n.ensures c.rounded4.ensures;
+      from = from_is c.args.x.now c.requires.opened c.args.s.node c.requires.here.inside c.begin_of-b.result.at c.name_length-n.result c.rounded4.result c.begin_of-b.ensures.at c.name_length-n.ensures c.rounded4.ensures;
     }
 
-pub overflow-add-next : goal.overflow-add-next
-overflow-add-next c = let f = (few c.args.x.now c.requires.opened c.args.s.node c.requires.here.inside).0 in omega arith
+pub overflow_add-next : goal.overflow_add-next
+overflow_add-next c = let f = (few c.args.x.now c.requires.opened c.args.s.node c.requires.here.inside).0 in omega arith
 
-pub overflow-add-next-2 : goal.overflow-add-next-2
-overflow-add-next-2 c =
+pub overflow_add-next-2 : goal.overflow_add-next-2
+overflow_add-next-2 c =
     let f = (few c.args.x.now c.requires.opened c.args.s.node c.requires.here.inside).1 in
-    let e = c.begin-of-b.ensures.depth in
+    let e = c.begin_of-b.ensures.depth in
     omega arith
 
 pub returns : goal.returns
@@ -75,11 +75,11 @@ returns c =
     let i : ℕ = c.args.s.node in
     let l = c.requires.here.inside in
     let o = c.requires.opened in
-    let d = c.begin-of-b.ensures.depth in
-    let e = from_is x o i l c.begin-of-b.result.at c.name-length-n.result c.rounded4.result c.begin-of-b.ensures.at c.name-length-n.ensures c.rounded4.ensures in
-    let f : c.begin-of-b.result.at + 4 + c.rounded4.result ≡ (mark_of (nodes_of x) i 0).at = e ∙ first-mark x o i l in
-    let k = c.run-of-run.ensures.count in
-    let z : c.run-of-run.result.end ≡ (mark_of (nodes_of x) i (length (nth (nodes_of x) i).properties)).at = c.run-of-run.ensures.end ∙ ap (λ n. (mark_of (nodes_of x) i n).at) k in
+    let d = c.begin_of-b.ensures.depth in
+    let e = from_is x o i l c.begin_of-b.result.at c.name_length-n.result c.rounded4.result c.begin_of-b.ensures.at c.name_length-n.ensures c.rounded4.ensures in
+    let f : c.begin_of-b.result.at + 4 + c.rounded4.result ≡ (mark_of (nodes_of x) i 0).at = e ∙ first-mark x o i l in
+    let k = c.run_of-run.ensures.count in
+    let z : c.run_of-run.result.end ≡ (mark_of (nodes_of x) i (length (nth (nodes_of x) i).properties)).at = c.run_of-run.ensures.end ∙ ap (λ n. (mark_of (nodes_of x) i n).at) k in
     record {
       depth = d;
       properties = k;

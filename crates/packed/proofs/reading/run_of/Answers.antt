@@ -45,27 +45,27 @@ module _ (x : Region) (o : Open x) (i : ℕ) (l : i < length (nodes_of x)) (at c
 pub loop-n-init : goal.loop-n-init
 loop-n-init c = (omega arith, λ i l e. (omega arith, e ∙ first-mark c.args.x.now c.requires.opened i l))
 
-pub word-at-requires : goal.word-at-requires
-word-at-requires c = let v = c.loop-n.invariant.1 c.args.s.node c.requires.here.inside c.requires.from in (room c.args.x.now c.requires.opened c.args.s.node c.requires.here.inside c.loop-n.at c.loop-n.count v.0 v.1).0
+pub word_at-requires : goal.word_at-requires
+word_at-requires c = let v = c.loop-n.invariant.1 c.args.s.node c.requires.here.inside c.requires.from in (room c.args.x.now c.requires.opened c.args.s.node c.requires.here.inside c.loop-n.at c.loop-n.count v.0 v.1).0
 
-pub overflow-add-at : goal.overflow-add-at
-overflow-add-at c = let v = c.loop-n.invariant.1 c.args.s.node c.requires.here.inside c.requires.from in let r = (room c.args.x.now c.requires.opened c.args.s.node c.requires.here.inside c.loop-n.at c.loop-n.count v.0 v.1).1 in omega arith
+pub overflow_add-at : goal.overflow_add-at
+overflow_add-at c = let v = c.loop-n.invariant.1 c.args.s.node c.requires.here.inside c.requires.from in let r = (room c.args.x.now c.requires.opened c.args.s.node c.requires.here.inside c.loop-n.at c.loop-n.count v.0 v.1).1 in omega arith
 
-pub word-at-n-requires : goal.word-at-n-requires
-word-at-n-requires c =
+pub word_at-n-requires : goal.word_at-n-requires
+word_at-n-requires c =
     let v = c.loop-n.invariant.1 c.args.s.node c.requires.here.inside c.requires.from in
     let r = (inside c.args.x.now c.requires.opened c.args.s.node c.requires.here.inside c.loop-n.at c.loop-n.count v.0 v.1 (omega arith)).1 in
     omega arith
 
-pub overflow-add-at-in-loop-n-2 : goal.overflow-add-at-in-loop-n-2
-overflow-add-at-in-loop-n-2 c =
+pub overflow_add-at-in-loop-n-2 : goal.overflow_add-at-in-loop-n-2
+overflow_add-at-in-loop-n-2 c =
     let v = c.loop-n.invariant.1 c.args.s.node c.requires.here.inside c.requires.from in
     let r = (inside c.args.x.now c.requires.opened c.args.s.node c.requires.here.inside c.loop-n.at c.loop-n.count v.0 v.1 (omega arith)).0 in
-    let w = ap pad4 c.word-at-n.ensures in
+    let w = ap pad4 c.word_at-n.ensures in
     omega arith
 
-pub overflow-add-count : goal.overflow-add-count
-overflow-add-count c =
+pub overflow_add-count : goal.overflow_add-count
+overflow_add-count c =
     let v = c.loop-n.invariant.1 c.args.s.node c.requires.here.inside c.requires.from in
     let r = (room c.args.x.now c.requires.opened c.args.s.node c.requires.here.inside c.loop-n.at c.loop-n.count v.0 v.1).1 in
     let k = c.loop-n.invariant.0 in
@@ -85,7 +85,7 @@ loop-n-preserved c =
           let v = c.loop-n.invariant.1 i l e in
           let m = more c.args.x.now c.requires.opened i l c.loop-n.at c.loop-n.count v.0 v.1 (omega arith) in
           let n = next c.args.x.now c.requires.opened i l c.loop-n.at c.loop-n.count v.0 v.1 (omega arith) in
-          let w = ap pad4 c.word-at-n.ensures in
+          let w = ap pad4 c.word_at-n.ensures in
           (omega arith, omega arith),
     )
 
@@ -93,6 +93,6 @@ pub returns : goal.returns
 returns c =
     let v = c.loop-n.invariant.1 c.args.s.node c.requires.here.inside c.requires.from in
     record {
-      count = last c.args.x.now c.requires.opened c.args.s.node c.requires.here.inside c.loop-n.at c.loop-n.count v.0 v.1 (λ k. c.loop-n-test.false (c.word-at.ensures ∙ k));
+      count = last c.args.x.now c.requires.opened c.args.s.node c.requires.here.inside c.loop-n.at c.loop-n.count v.0 v.1 (λ k. c.loop-n-test.false (c.word_at.ensures ∙ k));
       end = v.1;
     }

@@ -7,24 +7,24 @@ use Rattle.packed.specs.Regions.{nodes_of, Open}
 use Rattle.packed.proofs.Marks.{property-room, size-here, value-here}
 use Rattle.packed.proofs.reading.value_of.Goals as goal
 
-pub overflow-add-from : goal.overflow-add-from
-overflow-add-from c =
+pub overflow_add-from : goal.overflow_add-from
+overflow_add-from c =
     let r = property-room c.args.x.now c.requires.opened c.args.m.node c.requires.on.inside c.args.m.number c.requires.on.within in
     let a = r.0 in
     let b = r.1 in
     let e = ap (λ z. z.at) c.requires.on.is in
     omega arith
 
-pub overflow-add-m : goal.overflow-add-m
-overflow-add-m c =
+pub overflow_add-m : goal.overflow_add-m
+overflow_add-m c =
     let r = property-room c.args.x.now c.requires.opened c.args.m.node c.requires.on.inside c.args.m.number c.requires.on.within in
     let a = r.0 in
     let b = r.1 in
     let e = ap (λ z. z.at) c.requires.on.is in
     omega arith
 
-pub word-at-requires : goal.word-at-requires
-word-at-requires c =
+pub word_at-requires : goal.word_at-requires
+word_at-requires c =
     let r = property-room c.args.x.now c.requires.opened c.args.m.node c.requires.on.inside c.args.m.number c.requires.on.within in
     let a = r.0 in
     let b = r.1 in
@@ -32,31 +32,31 @@ word-at-requires c =
     let e = ap (λ z. z.at) c.requires.on.is in
     omega arith
 
-pub overflow-add-to : goal.overflow-add-to
-overflow-add-to c =
+pub overflow_add-to : goal.overflow_add-to
+overflow_add-to c =
     let x = c.args.x.now in
     let r = property-room x c.requires.opened c.args.m.node c.requires.on.inside c.args.m.number c.requires.on.within in
     let a = r.0 in
     let b = r.1 in
     let e = ap (λ z. z.at) c.requires.on.is in
-    let s = c.word-at.ensures ∙ ap (λ z. be32 x.bytes.now (z.at + 4)) c.requires.on.is ∙ size-here x c.requires.opened c.args.m.node c.requires.on.inside c.args.m.number c.requires.on.within in
+    let s = c.word_at.ensures ∙ ap (λ z. be32 x.bytes.now (z.at + 4)) c.requires.on.is ∙ size-here x c.requires.opened c.args.m.node c.requires.on.inside c.args.m.number c.requires.on.within in
     omega arith
 
-pub slice-bounds-result-end : goal.slice-bounds-result-end
-slice-bounds-result-end c =
+pub slice_bounds-result-end : goal.slice_bounds-result-end
+slice_bounds-result-end c =
     let x = c.args.x.now in
     let r = property-room x c.requires.opened c.args.m.node c.requires.on.inside c.args.m.number c.requires.on.within in
     let a = r.0 in
     let b = r.1 in
     let d = r.2 in
     let e = ap (λ z. z.at) c.requires.on.is in
-    let s = c.word-at.ensures ∙ ap (λ z. be32 x.bytes.now (z.at + 4)) c.requires.on.is ∙ size-here x c.requires.opened c.args.m.node c.requires.on.inside c.args.m.number c.requires.on.within in
-    let q : c.args.m.at + 12 + c.word-at.result ≤ length x.bytes.now = omega arith in
+    let s = c.word_at.ensures ∙ ap (λ z. be32 x.bytes.now (z.at + 4)) c.requires.on.is ∙ size-here x c.requires.opened c.args.m.node c.requires.on.inside c.args.m.number c.requires.on.within in
+    let q : c.args.m.at + 12 + c.word_at.result ≤ length x.bytes.now = omega arith in
     search rules
 
 pub returns : goal.returns
 returns c =
     let x = c.args.x.now in
-    let s = c.word-at.ensures ∙ ap (λ z. be32 x.bytes.now (z.at + 4)) c.requires.on.is ∙ size-here x c.requires.opened c.args.m.node c.requires.on.inside c.args.m.number c.requires.on.within in
+    let s = c.word_at.ensures ∙ ap (λ z. be32 x.bytes.now (z.at + 4)) c.requires.on.is ∙ size-here x c.requires.opened c.args.m.node c.requires.on.inside c.args.m.number c.requires.on.within in
     (λ i. between ((c.requires.on.is i).at + 12) ((c.requires.on.is i).at + 12 + s i) x.bytes.now)
     ∙ value-here x c.requires.opened c.args.m.node c.requires.on.inside c.args.m.number c.requires.on.within

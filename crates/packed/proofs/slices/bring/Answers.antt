@@ -3,4 +3,4 @@ use Rattle.packed.proofs.Gap.{brought}
 use Rattle.packed.proofs.slices.bring.Goals as goal
 
 pub returns : goal.returns
-returns c = brought c.args.xs.now c.rotate-right.new.self c.args.used c.args.at c.args.n _ c.requires.order c.requires.room refl c.rotate-right.ensures.after
+returns c = brought c.args.xs.now c.rotate_right.new.self c.args.used c.args.at c.args.n _ c.requires.order c.requires.room refl c.rotate_right.ensures.after

@@ -8,6 +8,6 @@ returns c =
     let at : ℕ = c.args.at in
     let n : ℕ = length c.args.new.now in
     let z : at + (at + n - at) ≡ at + n = omega arith in
-    let e = c.copy-from-slice.ensures.after in
+    let e = c.copy_from_slice.ensures.after in
     let r = drop-drop (at + n - at) at xs ∙ ap (λ k. drop k xs) z in
     λ i. take at xs ++ (e i ++ r i)
