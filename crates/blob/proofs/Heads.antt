@@ -4,7 +4,7 @@ use Rattle.std.proofs.lemmas.List.Edits.{length-between, get_or-between}
 use Rattle.std.proofs.ByRecursion.{All-get_or, All-from_get_or}
 use Rattle.std.proofs.lemmas.Bool.{and_parts}
 use Rattle.std.proofs.lemmas.Bool.Decides.{nat_tests}
-use Rattle.std.specs.List.{between, AllByRecursion as All}
+use Rattle.std.specs.List.{between, AllByRecursion}
 use Rattle.names.specs.Names.{each}
 use Rattle.blob.specs.Grammar.{Header, Accepts}
 use Rattle.blob.specs.Header.{reservation_offset, is_zero, empty_at, header, identified, versioned, placed, layout_of, Within}
@@ -12,11 +12,11 @@ use Rattle.blob.specs.declared.types.Layout.{Layout}
 use Rattle.blob.specs.declared.types.Refusal.{Refusal}
 
 -- each byte passes as 0, and each is 0
-zeros-all : (xs : List ℕ) → each is_zero xs ≡ true → All (λ b. b ≡ 0) xs
+zeros-all : (xs : List ℕ) → each is_zero xs ≡ true → AllByRecursion (λ b. b ≡ 0) xs
 zeros-all [] e = tt
 zeros-all (x ∷ xs) e = let p = and_parts (eqb x 0) (each is_zero xs) e in (eqb-true x 0 p.0, zeros-all xs p.1)
 
-all-zeros : (xs : List ℕ) → All (λ b. b ≡ 0) xs → each is_zero xs ≡ true
+all-zeros : (xs : List ℕ) → AllByRecursion (λ b. b ≡ 0) xs → each is_zero xs ≡ true
 all-zeros [] a = refl
 all-zeros (x ∷ xs) a = rw (eq-eqb x 0 a.0) (all-zeros xs a.1)
 

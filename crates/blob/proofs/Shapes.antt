@@ -2,7 +2,7 @@
 use Rattle.std.proofs.Common.{◌≡◌, ℕ, suc, ◌+◌, ◌<◌, ◌≤◌, Bool, true, false, eqb, List, [], ◌∷◌, ◌++◌, length, take, Some, None, Option, sym, refl, ap, ◌∙◌, subst, arith, length-append, take_at, lt-ltb, ne_eqb, eqb-true}
 use borrow.Author.Tests.{clash, eqb-false}
 use Rattle.std.proofs.lemmas.Bool.Decides.{nat_tests}
-use Rattle.std.specs.List.{between, AllByRecursion as All}
+use Rattle.std.specs.List.{between, AllByRecursion}
 use Rattle.names.specs.Names.{before}
 use Rattle.tree.specs.Numbers.{be32, pad4}
 use Rattle.blob.specs.Tokens.{Tok, begin, property, end, nop, finish, text_at, begin_at, property_at, token_at}
@@ -14,7 +14,7 @@ use Rattle.blob.specs.declared.types.Layout.{Layout}
 pub record Cut (xs : List ℕ) : Type 0 where
   pub rest : List ℕ
   pub split : xs ≡ take (before 0 xs) xs ++ (0 ∷ rest)
-  pub full : All (λ b. b ≡ 0 → ⊥) (take (before 0 xs) xs)
+  pub full : AllByRecursion (λ b. b ≡ 0 → ⊥) (take (before 0 xs) xs)
 
 cut-cons : (x : ℕ) (xs : List ℕ) (t : Bool) → eqb x 0 ≡ t → (t ≡ false → Cut xs) → Cut (x ∷ xs)
 cut-cons x xs true e h = record { rest = xs; split = rw e (ap (λ y. y ∷ xs) (eqb-true x 0 e)); full = rw e tt }
@@ -26,7 +26,7 @@ cut : (xs : List ℕ) → before 0 xs < length xs → Cut xs
 cut [] h = absurd (omega arith)
 cut (x ∷ xs) h = cut-cons x xs (eqb x 0) refl (λ e. cut xs (let k : suc (before 0 xs) < suc (length xs) = rw e at h in omega arith))
 
-before-is : (name rest : List ℕ) → All (λ b. b ≡ 0 → ⊥) name → before 0 (name ++ (0 ∷ rest)) ≡ length name
+before-is : (name rest : List ℕ) → AllByRecursion (λ b. b ≡ 0 → ⊥) name → before 0 (name ++ (0 ∷ rest)) ≡ length name
 before-is [] rest a = refl
 before-is (x ∷ name) rest a = rw (ne_eqb x 0 a.0) (ap suc (before-is name rest a.1))
 
@@ -38,7 +38,7 @@ module _ (bs : List ℕ) (from to : ℕ) (name : List ℕ) where
       let lt : before 0 xs < length xs = grind (arith, nat_tests) in
       let same : take (before 0 xs) xs ≡ name = grind (arith, nat_tests) in
       let c = cut xs lt in
-      record { rest = c.rest; split = subst (λ n. xs ≡ n ++ (0 ∷ c.rest)) same c.split; full = subst (λ n. All (λ b. b ≡ 0 → ⊥) n) same c.full }
+      record { rest = c.rest; split = subst (λ n. xs ≡ n ++ (0 ∷ c.rest)) same c.split; full = subst (λ n. AllByRecursion (λ b. b ≡ 0 → ⊥) n) same c.full }
 
   pub text_complete : Text bs from to name → text_at bs from to ≡ Some name
   unfolding text_at

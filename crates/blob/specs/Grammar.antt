@@ -1,6 +1,6 @@
 -- What a header and a token are, in words of the format; `header` and `tokenAt` find them. Assumes nothing.
 use Rattle.std.specs.Prelude.{◌≡◌, ℕ, ◌+◌, ◌%◌, ◌<◌, ◌≤◌, List, ◌∷◌, ◌++◌, length, Some, Ok, Result, ◌≢◌, slice_index}
-use Rattle.std.specs.List.{between, AllByRecursion as All}
+use Rattle.std.specs.List.{between, AllByRecursion}
 use Rattle.tree.specs.Numbers.{be32, pad4}
 use Rattle.blob.specs.Header.{magic_number, total_size, structure_offset, strings_offset, reservation_offset, version_number, last_compatible, boot_cpu, strings_size, structure_size}
 use Rattle.blob.specs.Tokens.{Tok, begin, property, end, nop, finish, token_at}
@@ -45,7 +45,7 @@ Accepts bs r = (l : Layout) → (r ≡ Ok l → Header bs l) × (Header bs l →
 pub record Text (bs : List ℕ) (from to : ℕ) (name : List ℕ) : Type 0 where
   pub rest : List ℕ
   pub split : between from to bs ≡ name ++ (0 ∷ rest)
-  pub full : All (λ b. b ≢ 0) name
+  pub full : AllByRecursion (λ b. b ≢ 0) name
 
 -- a token of four bytes: its number alone
 pub record Mark (bs : List ℕ) (l : Layout) (p number n : ℕ) : Type 0 where

@@ -2,7 +2,7 @@
 use Rattle.std.proofs.Common.{◌≡◌, ℕ, zero, suc, ◌+◌, ◌-◌, ◌*◌, ◌/◌, ◌%◌, ◌^◌, ◌<◌, ◌≤◌, true, List, [], ◌∷◌, ◌++◌, map, length, get_or, take, drop, replicate, sym, refl, ap, ◌∙◌, subst, append_assoc, append-nil, add-zero, add_assoc, arith, length-append}
 use lib.ListN.{replicate-append-replicate}
 use Rattle.std.proofs.lemmas.List.{get_or-drop, get_or-append-add, drop_at, drop-drop, drop_more, take_at, take-append-drop, length-drop, take_more, drop_all, map-append}
-use Rattle.std.specs.List.{between, AllByRecursion as All}
+use Rattle.std.specs.List.{between, AllByRecursion}
 use Rattle.names.specs.Names.{before}
 use Rattle.tree.specs.Numbers.{be32, bytes32, pad4}
 use Rattle.tree.specs.Places.{Bytes}
@@ -104,7 +104,7 @@ module _ (bs : Bytes) (p k : ℕ) (rest : Bytes) where
 
 -- ---- texts
 
-pub before-is : (name rest : Bytes) → All (λ b. b ≡ 0 → ⊥) name → before 0 (name ++ (0 ∷ rest)) ≡ length name
+pub before-is : (name rest : Bytes) → AllByRecursion (λ b. b ≡ 0 → ⊥) name → before 0 (name ++ (0 ∷ rest)) ≡ length name
 before-is [] rest a = refl
 before-is (x ∷ name) rest a = rw (borrow.Author.Tests.ne_eqb x 0 a.0) (ap suc (before-is name rest a.1))
 
@@ -114,7 +114,7 @@ take-over (suc n) [] ys h = (take n ys, refl)
 take-over (suc n) (x ∷ name) ys h = let r = take-over n name ys (omega arith) in (r.0, ap (λ z. x ∷ z) r.1)
 
 -- a name that ends before `to`
-pub text-length : (bs name tail : Bytes) (from to : ℕ) → drop from bs ≡ name ++ (0 ∷ tail) → from + length name < to → All (λ b. b ≡ 0 → ⊥) name → before 0 (between from to bs) ≡ length name
+pub text-length : (bs name tail : Bytes) (from to : ℕ) → drop from bs ≡ name ++ (0 ∷ tail) → from + length name < to → AllByRecursion (λ b. b ≡ 0 → ⊥) name → before 0 (between from to bs) ≡ length name
 text-length bs name tail from to h l f =
     let r = take-over (to - from) name tail (omega arith) in
     ap (before 0) (ap (take (to - from)) h ∙ r.1) ∙ before-is name r.0 f
@@ -136,9 +136,9 @@ pub record Cursor (x : Region) (p : ℕ) (ts : List Tok) : Type 0 where
   pub named : k + names_of ts ≡ x.strings
   pub small : 56 + x.structure + x.strings ≤ 40960
   pub room : 40960 ≤ length (memory x)
-  pub full : All IsFull ts
+  pub full : AllByRecursion IsFull ts
 
-all_drop : {A : Type 0} (P : A → Type 0) (xs ys : List A) → All P (xs ++ ys) → All P ys
+all_drop : {A : Type 0} (P : A → Type 0) (xs ys : List A) → AllByRecursion P (xs ++ ys) → AllByRecursion P ys
 all_drop P [] ys h = h
 all_drop P (x ∷ xs) ys h = all_drop P xs ys h.1
 
@@ -162,10 +162,10 @@ pass x p ts us c =
       named = omega arith;
       small = c.small;
       room = c.room;
-      full = all_drop full ts us c.full;
+      full = all_drop IsFull ts us c.full;
     }
 
-pub at-start : (x : Region) (ts : List Tok) → Holding x ts → All IsFull ts → Cursor x 56 ts
+pub at-start : (x : Region) (ts : List Tok) → Holding x ts → AllByRecursion IsFull ts → Cursor x 56 ts
 unfolding packed
 at-start x ts h f =
     let a = h.structure in

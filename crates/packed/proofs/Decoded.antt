@@ -3,7 +3,7 @@ use Rattle.std.proofs.Common.{◌≡◌, ℕ, zero, suc, ◌+◌, ◌-◌, ◌*�
 use Rattle.std.proofs.lemmas.Slice.Eq.{bytes_eq-Decides}
 use Rattle.std.proofs.lemmas.List.{take_at}
 use Rattle.std.proofs.lemmas.Bool.{and_parts, and_from, cases_Bool, cond-true, cond-false, eqb-true, eqb-false, eq-eqb, ne_eqb, leb-true, le-leb, lt-leb}
-use Rattle.std.specs.List.{between, AllByRecursion as All}
+use Rattle.std.specs.List.{between, AllByRecursion}
 use Rattle.std.specs.Str.{bytes_eq}
 use Rattle.tree.specs.Numbers.{be32, pad4}
 use Rattle.tree.specs.Places.{Bytes}
@@ -48,7 +48,7 @@ ended-tokens o [] = ended-ends o (finish ∷ []) refl
 ended-tokens o (n ∷ ns) = ended-ends (o - n.depth) _ (ended-properties n.properties _ (ended-tokens (n.depth + 1) ns))
 
 -- a text that ends before `to`
-pub text_in : (bs name tail : Bytes) (from to : ℕ) → drop from bs ≡ name ++ (0 ∷ tail) → from + length name < to → All (λ b. b ≡ 0 → ⊥) name → Text bs from to name
+pub text_in : (bs name tail : Bytes) (from to : ℕ) → drop from bs ≡ name ++ (0 ∷ tail) → from + length name < to → AllByRecursion (λ b. b ≡ 0 → ⊥) name → Text bs from to name
 text_in bs name tail from to h l f =
     let r = take-over (to - from) name tail (omega arith) in
     record { rest = r.0; split = ap (take (to - from)) h ∙ r.1; full = f }
@@ -165,7 +165,7 @@ opened_some x i some =
     } in
     record {
       holding = subst (λ ms. Holding x (tokens_of 0 ms)) (sym same) h;
-      named = subst (λ ms. All IsFull (tokens_of 0 ms)) (sym same) (full-valid x.boot ns g.1);
+      named = subst (λ ms. AllByRecursion IsFull (tokens_of 0 ms)) (sym same) (full-valid x.boot ns g.1);
       nodes = eqb-true x.nodes (length ns) f.0 ∙ ap length (sym same);
       properties = eqb-true x.properties (properties_of ns) g.0 ∙ ap properties_of (sym same);
       valid = subst (λ ms. valid x.boot ms ≡ true) (sym same) g.1;

@@ -1,12 +1,12 @@
 -- Names have no zero byte. Assumes nothing.
 use Rattle.std.proofs.Common.{◌≡◌, ℕ, suc, ◌≤◌, Bool, true, false, not, ◌&&◌, eqb, leb, List, [], ◌∷◌, length, take, drop, sym, refl, ap, ◌∙◌, subst, ⊎_elim}
-use Rattle.std.specs.List.{AllByRecursion as All}
+use Rattle.std.specs.List.{AllByRecursion}
 use Rattle.std.proofs.lemmas.Bool.{and_parts, cases_eq, eqb-true, eq-eqb, ne_eqb, cond-true, cond-false, true≢false}
 use Rattle.names.specs.Names.{node_byte, property_byte, before, each, word, node_name, property_name}
 use Rattle.tree.specs.Places.{Bytes}
 
 abbrev pub Full : Bytes → Type 0
-Full name = All (λ b. b ≡ 0 → ⊥) name
+Full name = AllByRecursion (λ b. b ≡ 0 → ⊥) name
 
 full-each : (p : ℕ → Bool) → p 0 ≡ false → (s : Bytes) → each p s ≡ true → Full s
 full-each p o [] e = tt

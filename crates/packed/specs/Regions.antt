@@ -1,6 +1,6 @@
 -- The memory of the packed store, and the nodes that it holds. Assumes nothing.
 use Rattle.std.specs.Prelude.{◌≡◌, ℕ, ◌+◌, ◌^◌, ◌<◌, ◌≤◌, Bool, true, false, cond, ◌&&◌, List, [], ◌∷◌, ◌++◌, length, take, drop, Some, None, Option, ◌==◌, ◌≢◌, nat_le}
-use Rattle.std.specs.List.{AllByRecursion as All}
+use Rattle.std.specs.List.{AllByRecursion}
 use Rattle.std.specs.Str.{bytes_eq}
 use Rattle.tree.specs.Places.{Bytes}
 use Rattle.blob.specs.Lexing.{Tokens, tokens_from}
@@ -64,15 +64,15 @@ pub record Holding (x : Region) (ts : List Tok) : Type 0 where
 
 -- names without a zero byte
 abbrev pub IsFull : Tok → Type 0
-IsFull (begin name) = All (λ b. b ≢ 0) name
-IsFull (property name value) = All (λ b. b ≢ 0) name
-full end = Unit {0}
-full nop = Unit {0}
-full finish = Unit {0}
+IsFull (begin name) = AllByRecursion (λ b. b ≢ 0) name
+IsFull (property name value) = AllByRecursion (λ b. b ≢ 0) name
+IsFull end = Unit {0}
+IsFull nop = Unit {0}
+IsFull finish = Unit {0}
 
 pub record Open (x : Region) : Type 0 where
   pub holding : Holding x (tokens_of 0 (nodes_of x))
-  pub named : All IsFull (tokens_of 0 (nodes_of x))
+  pub named : AllByRecursion IsFull (tokens_of 0 (nodes_of x))
   pub nodes : x.nodes ≡ length (nodes_of x)
   pub properties : x.properties ≡ properties_of (nodes_of x)
   pub valid : valid x.boot (nodes_of x) ≡ true

@@ -1,5 +1,6 @@
 // A tree as a blob in lent memory, edited in place.
 #![tactic(auto)]
+
 ghost use Rattle.packed.specs.Stands.{TokenLaws, NodeLaws};
 
 pub mod putting;

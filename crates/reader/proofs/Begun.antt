@@ -1,6 +1,6 @@
 -- The test whether a name stands at an offset. Assumes nothing.
 use Rattle.std.proofs.Common.{◌≡◌, ℕ, suc, ◌+◌, ◌-◌, ◌<◌, ◌≤◌, false, not, ◌&&◌, ◌||◌, eqb, List, [], ◌∷◌, ◌++◌, length, get_or, drop, refl, ap, ◌∙◌, arith, length-drop}
-use Rattle.std.specs.List.{between, AllByRecursion as All}
+use Rattle.std.specs.List.{between, AllByRecursion}
 use Rattle.std.specs.Str.{bytes_eq}
 use Rattle.std.proofs.lemmas.List.{drop_more, drop_all}
 use Rattle.std.proofs.lemmas.Bool.Decides.{nat_tests}
@@ -32,7 +32,7 @@ pub begins-end : (name bs : Bytes) (at : ℕ) → at + length name < length bs �
 begins-end name bs at k = rw (drop_all (length name) name (omega arith), drop_more bs (at + length name) 0 k)
 
 -- where a name stands with its zero byte, the test says whether it is that name
-begins-is : (name n rest : Bytes) → All (λ b. b ≡ 0 → ⊥) n → begins name (n ++ (0 ∷ rest)) ≡ bytes_eq n name
+begins-is : (name n rest : Bytes) → AllByRecursion (λ b. b ≡ 0 → ⊥) n → begins name (n ++ (0 ∷ rest)) ≡ bytes_eq n name
 begins-is [] [] rest a = refl
 begins-is (x ∷ name) [] rest a = grind (arith, nat_tests)
 begins-is [] (b ∷ n) rest a = ne_eqb b 0 a.0

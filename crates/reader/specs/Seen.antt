@@ -1,6 +1,6 @@
 -- The names that an open node has so far, as a table of the offsets where they begin. Assumes nothing.
 use Rattle.std.specs.Prelude.{◌≡◌, ℕ, Bool, false, not, ◌&&◌, ◌||◌, List, [], ◌∷◌, ◌++◌, drop, ◌==◌, ◌≢◌}
-use Rattle.std.specs.List.{AllByRecursion as All}
+use Rattle.std.specs.List.{AllByRecursion}
 use Rattle.tree.specs.Places.{Bytes}
 
 -- the bytes begin with the name, none of its bytes being zero, and then a zero byte
@@ -19,7 +19,7 @@ among bs name (o ∷ os) = begins name (drop o bs) || among bs name os
 pub record At (bs : Bytes) (o : ℕ) (name : Bytes) : Type 0 where
   pub rest : Bytes
   pub split : drop o bs ≡ name ++ (0 ∷ rest)
-  pub full : All (λ b. b ≢ 0) name
+  pub full : AllByRecursion (λ b. b ≢ 0) name
 
 -- these names stand at these offsets
 abbrev pub Spells : Bytes → List ℕ → List Bytes → Type 0
