@@ -16,7 +16,7 @@ use Rattle.overlay_rules.proofs.Checking.{passed}
 use Rattle.overlay_rules.proofs.Looks.{rule-unique, at-most_largest}
 use Rattle.overlay_rules.proofs.Planning.{plan-is}
 use Rattle.overlay_rules.proofs.Rules.{keeps_unique}
-use Rattle.ledger.specs.Ledgers.{plan_at, merge_all, sum, room, Socket, empty, held, shelved, Ledger, ledger_tree, fresh, socket_at, Parts, parts, blocker, Call, opening, plug, unplug, hand_over, take_back, plugged, receipt, granted, by_socket, no, turned, line, plug_by, plug_in, strike_by, unplug_by, step, State, closed, opened, open_by, closed_call, call, history, add_by}
+use Rattle.ledger.specs.Ledgers.{plan_at, merge_all, sum, room, Socket, empty, held, shelved, Ledger, ledger_tree, fresh, socket_at, Parts, parts, blocker, Call, opening, plug, unplug, hand_over, take_back, receipt, granted, by_socket, no, turned, line, plug_by, plug_in, strike_by, unplug_by, step, State, closed, opened, open_by, closed_call, call, history, add_by}
 use Rattle.ledger.specs.Invariants.{Fit, FitCall, LineAt, Made, count, occupied, Kept}
 use Rattle.ledger.proofs.Sockets.{count_join, count-other, count-own, count_none, Found, found, tied_again, is-room, room-struck}
 use Rattle.ledger.proofs.Striking.{merge-is, rises-all, struck, made-push, all_push}
