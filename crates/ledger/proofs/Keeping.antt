@@ -237,7 +237,7 @@ StateOf t (opened g) = (g.base ≡ t) × Kept g
 open_kept : (t : Tree) → Sound t → (b : Bool) → phandle_rule t ≡ b → (w : Option Bytes) → look t (node_at symbols_path) ≡ w → StateOf t (open_by t b w).1
 open_kept t s false r w h = refl
 open_kept t s true r None h = refl
-open_kept t s true r (Some v) h = (refl, fresh_kept t v s r h)
+open_kept t s true r (Some v) h = let k : StateOf t (opened (fresh t)) = (refl, fresh_kept t v s r h) in k
 
 closed-kept : (t u : Tree) → Sound t → (c : Call) → u ≡ t → StateOf t (closed_call u c).1
 closed-kept t u s opening e = subst (λ z. StateOf t (closed_call z opening).1) (sym e) (open_kept t s (phandle_rule t) refl (look t (node_at symbols_path)) refl)
