@@ -5,5 +5,5 @@ use Rattle.walk.proofs.walk.first_node.Goals as goal
 
 pub returns : goal.returns
 returns g c =
-    let e = first_ok (g.R.Readable.meaning c.args.tree.now) c.in-ok-boot-cpu.field-0 (length c.args.path.now) (g.R.Readable.good c.args.tree.now) (sym c.boot-cpu.ensures ∙ c.in-ok-boot-cpu.was) (omega arith) in
+    let e = first_ok (g.R.Readable.meaning c.args.tree.now) c.in_ok-boot_cpu.field-0 (length c.args.path.now) (g.R.Readable.good c.args.tree.now) (sym c.boot_cpu.ensures ∙ c.in_ok-boot_cpu.was) (omega arith) in
     record { answer = ap length_of (sym e); buffer = root_over c.args.path.now (omega arith) ∙ ap (λ x. named x c.args.path.now) (sym e) }
