@@ -1,10 +1,10 @@
 -- How a walk starts, and why it is refused. Assumes nothing.
-use Rattle.std.proofs.Common.{◌≡◌, ℕ, ◌+◌, ◌-◌, ◌<◌, ◌≤◌, min, Bool, true, false, cond, ◌&&◌, ◌||◌, eqb, leb, ◌⊎◌, List, [], ◌∷◌, ◌++◌, length, take, drop, set, Some, None, Ok, Err, Option, Result, sym, refl, ap, ◌∙◌, subst, inl, inr, ⊎_elim, true≢false, arith}
+use Rattle.std.proofs.Common.{◌≡◌, ℕ, ◌-◌, ◌<◌, ◌≤◌, min, Bool, true, false, ◌||◌, eqb, leb, [], ◌∷◌, length, take, set, Some, Ok, Err, sym, refl, ap, ◌∙◌, ⊎_elim, arith}
 use Rattle.std.proofs.lemmas.List.{take_all, length-take-le, set_split}
-use Rattle.std.proofs.lemmas.Bool.{cases_Bool, cases_lt, ne_eqb, le-leb, lt-leb, cond-true, cond-false, or_from, or_right, eqb-true}
+use Rattle.std.proofs.lemmas.Bool.{cases_Bool, cases_lt, ne_eqb, le-leb, lt-leb, cond-true, cond-false}
 use Rattle.names.specs.Paths.{root, path_text}
 use Rattle.tree.specs.Places.{Bytes, node_at}
-use Rattle.tree.specs.Trees.{Tree, Sound, look}
+use Rattle.tree.specs.Trees.{Tree}
 use Rattle.store.specs.Calls.{Meaning, closed, holds, Good, tested, there, over, has_node, boot_of}
 use Rattle.store.specs.declared.Refusal.{Refusal}
 use Rattle.store.specs.declared.Refusal.TheVariants.{BadName, Absent, Short, Closed}
