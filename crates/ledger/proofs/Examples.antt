@@ -55,7 +55,7 @@ pub refusals : Refusals
 unfolding node_byte property_byte property_name node_name path_parts path_text stem behind_last parent find upd total be32 handles distinct_handles holder_of largest_of look change zero_ended split digits decimal behind value_at fragment_nodes body_entries strings spots numbers_from labels_of cells_of target_of overlay_of listed_from body_handles handle_fault cell_fault check labelled known node_there number_there image_of filled lowest twice again read_symbols planned allowed plan apply ◌>>=◌ run asked for_each distinct notes restore saved_bytes merge_all sum room parts blocker step history answers
 refusals = record {
   closed_calls = refl;
-  bad_handle_lem = refl;
+  bad_handle = refl;
   no_symbols = refl;
   opened_twice = refl;
   plugs = refl;

@@ -16,7 +16,7 @@ use Rattle.overlay_rules.proofs.Checking.{passed}
 use Rattle.overlay_rules.proofs.Looks.{rule-unique, at-most_largest}
 use Rattle.overlay_rules.proofs.Planning.{plan-is}
 use Rattle.overlay_rules.proofs.Rules.{keeps_unique}
-use Rattle.ledger.specs.Ledgers.{plan_at, merge_all, sum, room, Socket, empty, held, shelved, Ledger, ledger_tree, fresh, socket_at, Parts, parts, blocker, Call, opening, plug, unplug, hand_over, take_back, plugged, receipt, granted, by_socket, no, turned, line, plug_by, plug_in, strike_by, unplug_by, step, State, closed, opened, open_by, closed_call, call, history, add_by}
+use Rattle.ledger.specs.Ledgers.{plan_at, merge_all, sum, room, Socket, empty, held, shelved, Ledger, ledger_tree, fresh, socket_at, Parts, parts, blocker, Call, opening, plug, unplug, hand_over, take_back, receipt, granted, by_socket, no, turned, line, plug_by, plug_in, strike_by, unplug_by, step, State, closed, opened, open_by, closed_call, call, history, add_by}
 use Rattle.ledger.specs.Invariants.{Fit, FitCall, LineAt, Made, count, occupied, Kept}
 use Rattle.ledger.proofs.Sockets.{count_join, count-other, count-own, count_none, Found, found, tied_again, is-room, room-struck}
 use Rattle.ledger.proofs.Striking.{merge-is, rises-all, struck, made-push, all_push}
@@ -237,7 +237,7 @@ StateOf t (opened g) = (g.base ≡ t) × Kept g
 open_kept : (t : Tree) → Sound t → (b : Bool) → phandle_rule t ≡ b → (w : Option Bytes) → look t (node_at symbols_path) ≡ w → StateOf t (open_by t b w).1
 open_kept t s false r w h = refl
 open_kept t s true r None h = refl
-open_kept t s true r (Some v) h = (refl, fresh_kept t v s r h)
+open_kept t s true r (Some v) h = let k : StateOf t (opened (fresh t)) = (refl, fresh_kept t v s r h) in k
 
 closed-kept : (t u : Tree) → Sound t → (c : Call) → u ≡ t → StateOf t (closed_call u c).1
 closed-kept t u s opening e = subst (λ z. StateOf t (closed_call z opening).1) (sym e) (open_kept t s (phandle_rule t) refl (look t (node_at symbols_path)) refl)

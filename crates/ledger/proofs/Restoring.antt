@@ -23,7 +23,7 @@ use Rattle.overlay_rules.proofs.Rules.{keeps_unique, written-handle, raised_abov
 use Rattle.overlay_rules.proofs.Shapes.{Grows, grows_back}
 use Rattle.overlay_rules.proofs.Growing.{plan_grows}
 use Rattle.overlay_rules.proofs.Touching.{writes-is, node-absent, plan-fewer, wrote_none, restore_join, restore-reads, restore-writes}
-use Rattle.ledger.specs.Ledgers.{Line, line, plan_at, merge, merge_all, room, Socket, empty, held, shelved, Ledger, ledger_tree, socket_at, plugged, refused, by_socket, no, turned, plug_by, plug_in, step, add_by}
+use Rattle.ledger.specs.Ledgers.{Line, line, plan_at, merge, merge_all, room, Socket, empty, held, shelved, Ledger, ledger_tree, socket_at, plugged, refused, by_socket, no, plug_by, plug_in, step, add_by}
 use Rattle.ledger.specs.Invariants.{LineAt, Made, Kept}
 use Rattle.ledger.specs.Promises.{NoneTouches, Strikes, Striking, Plugging, AnsweredOffset}
 use Rattle.ledger.proofs.Sockets.{room-struck}

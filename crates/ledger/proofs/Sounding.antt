@@ -6,12 +6,12 @@ use Rattle.tree.specs.Entries.{Entry, listed}
 use Rattle.tree.specs.Maps.{total}
 use Rattle.tree.specs.Phandles.{largest_phandle}
 use Rattle.tree.specs.Places.{Bytes, Place, node_at}
-use Rattle.tree.specs.Trees.{Places, Tree, look, node_count, property_count, weigh, nodes, properties, weight, Sound}
+use Rattle.tree.specs.Trees.{Places, Tree, look, node_count, property_count, weigh, Sound}
 use Rattle.overlay_rules.specs.Laws.{Rising, In, Fewer, Free, Off}
 use Rattle.overlay_rules.specs.Overlays.{overlay_of, symbols_path, phandle_at}
 use Rattle.overlay_rules.specs.Plans.{Share, share_of, shared, Plan, apply}
 use Rattle.overlay_rules.specs.Queries.{run}
-use Rattle.overlay_rules.specs.Records.{distinct, wrote}
+use Rattle.overlay_rules.specs.Records.{wrote}
 use Rattle.overlay_rules.proofs.Lists.{all-at, all_left, in_left, in_right}
 use Rattle.overlay_rules.proofs.Looks.{tree-ext}
 use Rattle.overlay_rules.proofs.Checking.{passed}

@@ -6,7 +6,7 @@ use Rattle.tree.specs.Places.{Place}
 use Rattle.tree.specs.Trees.{Tree, look}
 use Rattle.overlay_rules.specs.Laws.{Rising, In, Valid, Fewer}
 use Rattle.overlay_rules.specs.Overlays.{phandle_at, overlay_of}
-use Rattle.overlay_rules.specs.Plans.{Plan, Reference, plan, apply}
+use Rattle.overlay_rules.specs.Plans.{Plan, Reference, apply}
 use Rattle.overlay_rules.specs.Records.{wrote}
 use Rattle.overlay_rules.proofs.Asking.{ok_one}
 use Rattle.overlay_rules.proofs.Checking.{passed}

@@ -79,7 +79,7 @@ pub record Worked : Type 0 where
 -- every refusal of the calls, with its place
 pub record Refusals : Type 0 where
   pub closed_calls : answers (closed base) (in0 rate ∷ unplug 4096 3 ∷ hand_over 3 ∷ take_back 3 ∷ []) ≡ refused 56 0 ∷ refused 56 0 ∷ refused 56 0 ∷ refused 56 0 ∷ []
-  pub bad_handle_lem : answers (closed (base_with (bytes32 0))) (opening ∷ []) ≡ refused 16 0 ∷ []
+  pub bad_handle : answers (closed (base_with (bytes32 0))) (opening ∷ []) ≡ refused 16 0 ∷ []
   pub no_symbols : answers (closed (record { boot = 0; places = ((codes "/", None), []) ∷ [] })) (opening ∷ []) ≡ refused 17 0 ∷ []
   pub opened_twice : said base (opening ∷ []) ≡ granted ∷ refused 56 0 ∷ []
   pub plugs : said base (plug 4095 99 rate ∷ plug 4096 16 rate ∷ plug 4096 15 rate ∷ plug 4096 15 rate ∷ []) ≡ granted ∷ refused 55 0 ∷ refused 30 16 ∷ plugged 15 5 ∷ refused 31 15 ∷ []

@@ -1,6 +1,7 @@
 // The ledger of a stack and the promise over every history, as definitions in specs/. This code only names the theorems, so that
 // the check demands their proofs.
 #![tactic(auto)]
+
 ghost use Rattle.ledger.specs.Examples.{Worked, Refusals, NoMistakes, Premises};
 ghost use Rattle.ledger.specs.Logs.{LogLaws};
 ghost use Rattle.ledger.specs.Promises.{EveryHistory, Invariant, Striking, Plugging, AnsweredOffset};

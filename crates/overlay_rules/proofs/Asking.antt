@@ -6,8 +6,9 @@ use Rattle.tree.specs.Places.{Bytes, Place}
 use Rattle.tree.specs.Trees.{Tree, look}
 use Rattle.tree.proofs.Maps.{some-none}
 use Rattle.overlay_rules.specs.Queries.{Query, done, refuse, ask, seek, ◌>>=◌, run, sought, asked, need, stop_at, for_each}
+use Rattle.overlay_rules.specs.Overlays.{phandle_at}
 use Rattle.overlay_rules.specs.Laws.{Rising, In, Unique, Fewer, SameAt}
-use Rattle.overlay_rules.proofs.Lists.{all_left, all_right, in-cases, in_left, in_right}
+use Rattle.overlay_rules.proofs.Lists.{all-at, all_left, all_right, in-cases, in_left, in_right}
 use Rattle.overlay_rules.proofs.Looks.{holder-found, holder-some}
 
 pub err_ok : {A B : Type 0} (b : B) (a : A) → Err b ≡ Ok a → ⊥
@@ -24,7 +25,8 @@ holder-same s t n rs rt k u h = go (holder s n) (holder t n) refl refl h
     go None None f g h = refl
     go None (Some q) f g h =
         let x = holder-found t n q rt g in
-        let z = holder-some s n q x.0 (h.0 ∙ x.1) x.2 in
+        let same : SameAt s t (phandle_at q) = all-at (SameAt s t) (phandle_at q) (phandle_at q ∷ []) h (inl refl) in
+        let z = holder-some s n q x.0 (same ∙ x.1) x.2 in
         absurd (some-none z.0 (sym z.1 ∙ f))
     go (Some p) None f g h =
         let x = holder-found s n p rs f in

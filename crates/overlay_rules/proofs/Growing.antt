@@ -17,7 +17,7 @@ use Rattle.tree.proofs.Listed.{same-only}
 use Rattle.tree.proofs.Maps.{some-none}
 use Rattle.overlay_rules.specs.Texts.{given, pick, slashed, behind}
 use Rattle.overlay_rules.specs.Overlays.{symbols_path, body_path, value_at, is_listed, is_fragment_path, fragment_of, fragment_nodes, in_body, body_entries, target_of, Fragment, Item, Symbol, overlay_of}
-use Rattle.overlay_rules.specs.Plans.{Located, located, image_of, final_bytes, filled, image_entry, symbol_entry, images, Touch, there, if_there, put_in, share_of, below_top, shared, Plan, planned, apply}
+use Rattle.overlay_rules.specs.Plans.{Located, located, image_of, final_bytes, filled, image_entry, symbol_entry, images, Touch, if_there, put_in, share_of, below_top, shared, Plan, planned, apply}
 use Rattle.overlay_rules.specs.Steps.{touch_at, puts_in}
 use Rattle.overlay_rules.specs.Laws.{Rising, In}
 use Rattle.overlay_rules.proofs.Lists.{all-at, all_from, in_left, in_map, in-map-from, in-pick, in-pick-from, some-true, some_in}

@@ -9,7 +9,7 @@ use Rattle.tree.specs.Trees.{Tree, look}
 use Rattle.tree.proofs.Maps.{some-none}
 use Rattle.overlay_rules.specs.Texts.{pick, joined}
 use Rattle.overlay_rules.specs.Overlays.{symbols_path, phandle_at, Fragment, Overlay}
-use Rattle.overlay_rules.specs.Plans.{Known, labelled, Located, located, images, there, touch, there_in, once, Plan, has_labels, known_reads}
+use Rattle.overlay_rules.specs.Plans.{Known, labelled, Located, located, images, touch, there_in, once, Plan, has_labels, known_reads}
 use Rattle.overlay_rules.specs.Records.{Note, distinct, read_note, write_note, notes}
 use Rattle.overlay_rules.specs.Laws.{Rising, In, WritesAt, ApartNotes, Records, RecordsWhatItTouches}
 use Rattle.overlay_rules.proofs.Lists.{all-at, all_from, all_both, in-cases, in-map-from, in-joined-from, in-pick-from, some-false}

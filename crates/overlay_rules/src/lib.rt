@@ -1,5 +1,6 @@
 // The rules of overlays, as definitions in specs/. This code only names the theorems, so that the check demands their proofs.
 #![tactic(auto)]
+
 ghost use Rattle.overlay_rules.specs.CheckExamples.{CheckExamples};
 ghost use Rattle.overlay_rules.specs.Merges.{MergesBySteps};
 ghost use Rattle.overlay_rules.specs.PlanExamples.{PlanExamples};

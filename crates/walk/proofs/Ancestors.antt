@@ -1,20 +1,19 @@
 -- What comes between a node and its child is below that node. Assumes nothing.
-use Rattle.std.proofs.Common.{◌≡◌, ℕ, ◌+◌, ◌<◌, ◌≤◌, Bool, true, false, cond, eqb, ◌⊎◌, List, [], ◌∷◌, ◌++◌, length, Ordering, Less, Equal, Greater, sym, refl, ap, ◌∙◌, subst, inl, inr, ⊎_elim, true≢false, arith, length-append}
+use Rattle.std.proofs.Common.{◌≡◌, ℕ, ◌+◌, ◌<◌, true, eqb, ◌⊎◌, List, [], ◌∷◌, ◌++◌, length, Ordering, Less, sym, refl, ap, ◌∙◌, inl, inr, ⊎_elim, true≢false, arith, length-append}
 use Rattle.std.proofs.lemmas.Bool.Decides.{nat_tests}
 use Rattle.std.proofs.lemmas.Bool.{cases_order, cases_Bool, eqb-true, eq-eqb}
 use Rattle.std.specs.Str.{bytes_eq}
 use Rattle.std.proofs.lemmas.Slice.Eq.{bytes_eq-Decides}
-use Rattle.std.specs.Ordering.{is_lt, is_eq, is_gt, ordering_then}
-use Rattle.names.specs.Names.{node_name}
+use Rattle.std.specs.Ordering.{ordering_then}
 use Rattle.names.specs.Orders.{path_order, rank}
-use Rattle.names.specs.Paths.{root, path_text, stem, child, leaf, parent, plain}
+use Rattle.names.specs.Paths.{root, path_text, stem, child, leaf, plain}
 use Rattle.names.specs.PathLaws.{further}
 use Rattle.names.proofs.NameLaws.{node_names}
-use Rattle.names.proofs.Orders.{below, above, level, rank-one, front_shared, path_order_lem}
-use Rattle.names.proofs.PathLaws.{by-root, root_ends, path_starts, path_splits, slashless, stem-root, stem-other}
+use Rattle.names.proofs.Orders.{below, above, level, rank-one, front_shared}
+use Rattle.names.proofs.PathLaws.{by-root, root_ends, path_starts, path_splits, slashless, stem-root}
 use Rattle.tree.specs.Places.{Bytes}
 use Rattle.walk.specs.Runs.{Chain}
-use Rattle.walk.proofs.Orders.{AtMost, less_greater, never_less, most-less}
+use Rattle.walk.proofs.Orders.{less_greater}
 use Rattle.std.specs.Ordering as std-orderings
 
 pub cases-bytes : (p q : Bytes) → (p ≡ q) ⊎ (p ≡ q → ⊥)

@@ -1,17 +1,16 @@
 -- Ends of a list of places. Assumes nothing.
-use Rattle.std.proofs.Common.{◌≡◌, ℕ, Bool, true, false, cond, ◌⊎◌, List, [], ◌∷◌, ◌++◌, Some, None, Option, Ordering, Less, Equal, Greater, sym, refl, ap, ◌∙◌, subst, inl, inr, ⊎_elim, true≢false, arith}
+use Rattle.std.proofs.Common.{◌≡◌, ℕ, Bool, true, false, ◌⊎◌, [], ◌∷◌, Some, None, Ordering, Less, Equal, Greater, sym, refl, ap, ◌∙◌, subst, inl, inr, ⊎_elim, true≢false, arith}
 use Rattle.std.specs.Ordering.{is_lt}
 use Rattle.std.proofs.lemmas.Bool.{cases_Bool, cond-true, cond-false}
 use Rattle.names.specs.Orders.{path_order}
-use Rattle.names.specs.Paths.{path_text}
 use Rattle.names.proofs.Orders.{path_order_lem}
-use Rattle.tree.specs.Maps.{find, Below, Rises}
+use Rattle.tree.specs.Maps.{find, Rises}
 use Rattle.tree.specs.Places.{Bytes, Place, node_at, property_at, order}
 use Rattle.tree.specs.Trees.{Places, Tree, Sound, look}
 use Rattle.tree.proofs.Maps.{some-none, find-below, find-tail, head-found}
 use Rattle.tree.proofs.Places.{place-order}
-use Rattle.walk.specs.Walks.{behind, beyond, after}
-use Rattle.walk.proofs.Orders.{AtMost, less-paths, node-less, own-property, paths-less}
+use Rattle.walk.specs.Walks.{behind, beyond}
+use Rattle.walk.proofs.Orders.{AtMost, less-paths, node-less, own-property}
 use Rattle.walk.proofs.Runs.{found_in}
 
 pub is-less : (r : Ordering) → is_lt r ≡ true → r ≡ Less

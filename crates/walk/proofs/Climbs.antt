@@ -1,23 +1,22 @@
 -- The turns of a walk. Assumes nothing.
-use Rattle.std.proofs.Common.{◌≡◌, ℕ, ◌+◌, ◌-◌, ◌<◌, ◌≤◌, Bool, true, false, cond, ◌&&◌, ◌||◌, eqb, leb, ◌⊎◌, List, [], ◌∷◌, ◌++◌, length, take, drop, is_some, Some, None, Ok, Err, Option, Result, sym, refl, ap, ◌∙◌, subst, inl, inr, ⊎_elim, true≢false, append_assoc, arith, length-append}
-use Rattle.std.proofs.lemmas.List.{take_at, take_all, take-append-le, length-take-le, length-drop, take-take, drop_at, nil_from_length}
+use Rattle.std.proofs.Common.{◌≡◌, ℕ, ◌+◌, ◌-◌, ◌<◌, ◌≤◌, Bool, true, false, cond, ◌||◌, eqb, leb, ◌⊎◌, [], ◌∷◌, ◌++◌, length, take, drop, is_some, Some, None, Ok, Err, Option, Result, sym, refl, ap, ◌∙◌, subst, inl, inr, ⊎_elim, append_assoc, arith, length-append}
+use Rattle.std.proofs.lemmas.List.{take_at, length-take-le, length-drop, take-take, nil_from_length}
 use Rattle.std.proofs.lemmas.Slice.{between_is}
-use Rattle.std.proofs.lemmas.Bool.{cases_Bool, and_from, or_right, or_left, eq-eqb, ne_eqb, cond-true, leb-true, leb-false, le-leb, and_parts}
+use Rattle.std.proofs.lemmas.Bool.{cases_Bool, and_from, or_right, or_left, eq-eqb, cond-true, leb-true, leb-false, le-leb, and_parts}
 use Rattle.names.specs.Names.{node_name}
 use Rattle.names.specs.Paths.{root, path_text, stem, child, leaf, parent}
 use Rattle.names.proofs.NameLaws.{node_names}
-use Rattle.names.proofs.PathLaws.{by-root, path_splits, path_starts, stem-root, root_ends}
+use Rattle.names.proofs.PathLaws.{by-root, path_splits, path_starts, stem-root}
 use Rattle.tree.specs.Places.{Bytes, node_at}
 use Rattle.tree.specs.Trees.{Tree, Sound, look}
-use Rattle.tree.proofs.Maps.{some_one}
 use Rattle.store.specs.Calls.{Meaning, closed, holds, Good, tested, there, length_of, named, over, next_child, child_on, names, least_after}
 use Rattle.store.specs.declared.Refusal.{Refusal}
-use Rattle.store.specs.declared.Refusal.TheVariants.{BadName, Absent, Short, Closed}
+use Rattle.store.specs.declared.Refusal.TheVariants.{BadName, Absent, Short}
 use Rattle.walk.specs.Steps.{Stands}
 use Rattle.walk.specs.Walks.{beyond, first_path, next_node}
 use Rattle.walk.proofs.Ancestors.{some_byte}
 use Rattle.walk.proofs.Marks.{key, end_of, Asked, end-key}
-use Rattle.walk.proofs.Turns.{on_some, on_none, on_start, on_top, on_empty}
+use Rattle.walk.proofs.Turns.{on_some, on_none, on_start, on_top}
 
 -- tests that pass
 pub three_pass : {A : Type 0} (x y z : Bool) (e f g : Refusal) (a : A) → x ≡ true → y ≡ true → z ≡ true → tested ((x, e) ∷ (y, f) ∷ (z, g) ∷ []) a ≡ Ok a

@@ -1,5 +1,5 @@
 -- The next name, and the names that places give. Assumes nothing.
-use Rattle.std.proofs.Common.{◌≡◌, Bool, true, false, cond, not, ◌&&◌, ◌⊎◌, List, [], ◌∷◌, ◌++◌, Some, None, Option, Ordering, Less, Equal, Greater, sym, refl, ap, ◌∙◌, subst, inl, inr, ⊎_elim, true≢false}
+use Rattle.std.proofs.Common.{◌≡◌, true, false, cond, not, ◌&&◌, ◌⊎◌, List, [], ◌∷◌, ◌++◌, Some, None, Option, Ordering, Less, Equal, Greater, sym, refl, ap, ◌∙◌, subst, inl, inr, ⊎_elim, true≢false}
 use Rattle.std.specs.Ordering.{is_lt, ordering_reverse}
 use Rattle.std.specs.Str.{bytes_eq}
 use Rattle.std.proofs.lemmas.Slice.Eq.{bytes_eq-Decides}
@@ -14,7 +14,7 @@ use Rattle.tree.proofs.Maps.{some-none, some_one, find-tail, head-found}
 use Rattle.tree.proofs.Places.{place-order}
 use Rattle.store.specs.Calls.{later, least, least_after, child_on, property_on, names}
 use Rattle.walk.proofs.Ancestors.{In}
-use Rattle.walk.proofs.Behind.{is-less, less-is, not-less}
+use Rattle.walk.proofs.Behind.{is-less, less-is}
 use Rattle.walk.proofs.Runs.{found_in}
 
 pub least-in : (n m : Bytes) (ms : List Bytes) → least_after n ms ≡ Some m → In m ms × (later n m ≡ true)

@@ -1,31 +1,24 @@
 -- What a walk has yet to come to, for loops over it. Assumes nothing.
-use Rattle.std.proofs.Common.{◌≡◌, ℕ, ◌+◌, ◌<◌, ◌≤◌, Bool, true, false, cond, ◌&&◌, ◌||◌, eqb, leb, ◌⊎◌, List, [], ◌∷◌, ◌++◌, length, Some, None, Ok, Err, Option, Result, Ordering, Less, Equal, Greater, sym, refl, ap, ◌∙◌, subst, inl, inr, ⊎_elim, true≢false, arith}
-use Rattle.std.proofs.lemmas.Bool.{cases_Bool, cases_eq, and_parts, leb-true, le-leb, or_from, eq-eqb}
+use Rattle.std.proofs.Common.{◌≡◌, ℕ, ◌<◌, ◌≤◌, Bool, true, ◌⊎◌, List, [], ◌∷◌, Some, None, Option, Less, sym, refl, ap, ◌∙◌, subst, inl, inr, ⊎_elim, arith}
+use Rattle.std.proofs.lemmas.Bool.{cases_Bool, and_parts}
 use Rattle.std.specs.Ordering.{is_lt, nat_cmp}
 use Rattle.names.specs.Names.{property_name}
 use Rattle.names.specs.Orders.{name_order, path_order}
-use Rattle.names.specs.Paths.{root, path_text}
+use Rattle.names.specs.Paths.{path_text}
 use Rattle.names.proofs.NameLaws.{property_names}
 use Rattle.names.proofs.Orders.{name_order_lem, path_order_lem}
-use Rattle.names.proofs.PathLaws.{path_starts}
 use Rattle.tree.specs.Maps.{find, Below, Rises, total}
 use Rattle.tree.specs.Places.{Bytes, Place, node_at, property_at, order}
-use Rattle.tree.specs.Trees.{Places, Tree, Sound, look, node_count, nodes, weigh}
+use Rattle.tree.specs.Trees.{Places, Tree, Sound, look, node_count, nodes}
 use Rattle.tree.proofs.Maps.{some-none, some_one, find-below, find-tail, head-found}
 use Rattle.tree.proofs.Places.{place-order}
-use Rattle.store.specs.Calls.{Meaning, closed, holds, Good, tested, later, least_after, property_on, names}
-use Rattle.store.specs.declared.Refusal.{Refusal}
-use Rattle.store.specs.declared.Refusal.TheVariants.{BadName, Absent, Short, Closed}
-use Rattle.walk.specs.Steps.{Stands}
-use Rattle.walk.specs.Walks.{behind, beyond, after, first_path, next_node}
-use Rattle.walk.proofs.Ancestors.{In, some_byte}
+use Rattle.store.specs.Calls.{later, least_after, property_on, names}
+use Rattle.walk.specs.Walks.{behind, beyond, after, first_path}
+use Rattle.walk.proofs.Ancestors.{some_byte}
 use Rattle.walk.proofs.Behind.{is-less, less-is, not-less, up-beyond, up-after, behind-here, behind-past, behind-rises, behind-held, behind-find, behind-first, behind-behind, behind-same, behind-none, Head, head_of}
-use Rattle.walk.proofs.Climbs.{node-asked, three_pass}
-use Rattle.walk.proofs.Least.{least-in, least-least, Ahead, later_trans, names_in, names-out, property-on, on-property}
-use Rattle.walk.proofs.Orders.{AtMost, less_greater, equal_less, never_less, less-paths, paths-less, paths-same, own-property}
+use Rattle.walk.proofs.Least.{least-in, least-least, Ahead, names_in, names-out, property-on, on-property}
+use Rattle.walk.proofs.Orders.{less_greater, equal_less, never_less, less-paths, paths-less, paths-same, own-property}
 use Rattle.walk.proofs.Runs.{found_in}
-use Rattle.walk.proofs.Starts.{first_ok}
-use Rattle.walk.proofs.Turns.{on_empty}
 use Rattle.std.specs.Cmp.Lexicographic.{slice_cmp}
 use Rattle.std.specs.Option.{option_cmp}
 

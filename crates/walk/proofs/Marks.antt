@@ -1,18 +1,21 @@
 -- The keys at which a walk stands: before the children of a node, or behind one of them with all below it. Assumes nothing.
+<<<<<<< HEAD
 use Rattle.std.proofs.Common.{◌≡◌, ℕ, ◌+◌, ◌<◌, ◌≤◌, Bool, true, false, cond, not, ◌&&◌, eqb, ◌⊎◌, List, [], ◌∷◌, ◌++◌, length, Ordering, Less, Equal, Greater, sym, refl, ap, ◌∙◌, subst, inl, inr, ⊎_elim, true≢false, append_assoc, arith}
 use Rattle.std.specs.List.{AllByRecursion}
 use Rattle.std.proofs.lemmas.Bool.{cases_Bool, cases_order, and_parts, and_from}
+=======
+use Rattle.std.proofs.Common.{◌≡◌, ℕ, true, not, eqb, ◌⊎◌, [], ◌∷◌, ◌++◌, length, sym, refl, ap, ◌∙◌, ⊎_elim, append_assoc, arith}
+use Rattle.std.proofs.lemmas.Bool.{cases_order, and_parts, and_from}
+>>>>>>> 1de8424528881a638f30d2f93aee70da190a0673
 use Rattle.std.specs.Ordering.{is_lt, ordering_then}
-use Rattle.std.specs.Cmp.{nat_cmp_total}
-use Rattle.names.specs.Names.{each, node_name}
+use Rattle.names.specs.Names.{node_name}
 use Rattle.names.specs.Orders.{name_order, path_order}
 use Rattle.names.specs.Paths.{root, path_text, stem, child, leaf, parent, plain}
 use Rattle.names.proofs.NameLaws.{node_names}
 use Rattle.names.proofs.Orders.{below, above, level, siblings}
-use Rattle.names.proofs.PathLaws.{by-root, path_splits, stem-root}
+use Rattle.names.proofs.PathLaws.{by-root, path_splits}
 use Rattle.tree.specs.Places.{Bytes}
 use Rattle.store.specs.Calls.{later}
-use Rattle.walk.proofs.Behind.{is-less, less-is}
 use Rattle.walk.proofs.Full.{Full, full-node}
 
 -- nothing, or the name and a zero byte, which is below every byte of a name

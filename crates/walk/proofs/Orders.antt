@@ -1,11 +1,11 @@
 -- The order of places by the order of paths. Assumes nothing.
-use Rattle.std.proofs.Common.{◌≡◌, Bool, true, false, ◌⊎◌, List, [], ◌∷◌, ◌++◌, Some, None, Option, Ordering, Less, Equal, Greater, sym, refl, ap, ◌∙◌, subst, inl, inr, ⊎_elim, true≢false}
-use Rattle.std.specs.Ordering.{is_lt, is_eq, is_gt, ordering_then, ordering_reverse, nat_cmp}
-use Rattle.names.specs.Orders.{name_order, path_order}
+use Rattle.std.proofs.Common.{◌≡◌, true, ◌⊎◌, [], ◌∷◌, Some, None, Option, Ordering, Less, Equal, Greater, sym, refl, ap, ◌∙◌, inl, inr, ⊎_elim, true≢false}
+use Rattle.std.specs.Ordering.{is_lt, is_eq, ordering_then, nat_cmp}
+use Rattle.names.specs.Orders.{path_order}
 use Rattle.names.specs.Paths.{root, path_text}
 use Rattle.names.proofs.Orders.{path_order_lem, longer_after}
 use Rattle.names.proofs.PathLaws.{path_starts}
-use Rattle.tree.specs.Places.{Bytes, Place, node_at, property_at, order}
+use Rattle.tree.specs.Places.{Bytes, node_at, property_at, order}
 use Rattle.std.specs.Cmp.Lexicographic.{slice_cmp}
 use Rattle.std.specs.Option.{option_cmp}
 

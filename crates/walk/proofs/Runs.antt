@@ -1,12 +1,12 @@
 -- The places of a tree are a run. Assumes nothing.
-use Rattle.std.proofs.Common.{◌≡◌, ℕ, ◌+◌, ◌<◌, Bool, true, false, ◌⊎◌, List, [], ◌∷◌, ◌++◌, Some, None, Option, Ordering, Less, Equal, Greater, sym, refl, ap, ◌∙◌, subst, inl, inr, ⊎_elim, true≢false, arith}
+use Rattle.std.proofs.Common.{◌≡◌, true, ◌⊎◌, List, [], ◌∷◌, Some, None, Ordering, Less, Equal, Greater, sym, refl, ap, ◌∙◌, subst, inl, inr, ⊎_elim}
 use Rattle.std.specs.Ordering.{ordering_reverse, match_ordering as by_order}
 use Rattle.std.proofs.lemmas.Bool.{and_parts}
-use Rattle.names.specs.Names.{node_name, property_name}
+use Rattle.names.specs.Names.{property_name}
 use Rattle.names.specs.Orders.{path_order}
 use Rattle.names.specs.Paths.{root, path_text, child, leaf, parent}
 use Rattle.names.proofs.NameLaws.{node_names}
-use Rattle.names.proofs.Orders.{path_order_lem, child_after}
+use Rattle.names.proofs.Orders.{child_after}
 use Rattle.names.proofs.PathLaws.{path_splits}
 use Rattle.tree.specs.Maps.{find, Below, Rises}
 use Rattle.tree.specs.Places.{Bytes, Place, node_at, property_at, order}
@@ -14,7 +14,7 @@ use Rattle.tree.specs.Trees.{Places, Tree, Sound, look}
 use Rattle.tree.proofs.Maps.{some-none, some_one, find-below, find-tail, head-found}
 use Rattle.tree.proofs.Places.{place-order}
 use Rattle.walk.specs.Runs.{Chain, Runs, run_end, run_root, run_property, run_node, run_leave, TreeRuns}
-use Rattle.walk.proofs.Orders.{AtMost, less_greater, less-paths, node-less, own-property, paths-less, never_less, most-less, most-not-less, root-most}
+use Rattle.walk.proofs.Orders.{AtMost, less_greater, less-paths, node-less, own-property, paths-less, most-less, most-not-less, root-most}
 use Rattle.walk.proofs.Ancestors.{In, ancestor, cases-bytes, chain-text}
 
 -- below the head of a rising list is below its tail

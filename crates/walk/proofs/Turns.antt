@@ -1,8 +1,8 @@
 -- One question of a walk: the next child of a node, by what it says of the next node in document order. Assumes nothing.
-use Rattle.std.proofs.Common.{◌≡◌, ℕ, ◌+◌, ◌<◌, ◌≤◌, Bool, true, false, cond, not, ◌&&◌, eqb, ◌⊎◌, List, [], ◌∷◌, ◌++◌, length, Some, None, Option, Ordering, Less, Equal, Greater, sym, refl, ap, ◌∙◌, subst, inl, inr, ⊎_elim, true≢false, append_assoc, append-nil, arith}
+use Rattle.std.proofs.Common.{◌≡◌, ℕ, ◌+◌, true, cond, eqb, [], ◌∷◌, ◌++◌, length, Some, None, Ordering, Less, Equal, Greater, sym, refl, ap, ◌∙◌, subst, inl, inr, ⊎_elim, true≢false, append_assoc, append-nil, arith}
 use Rattle.std.proofs.lemmas.List.{append_cancel_left}
-use Rattle.std.proofs.lemmas.Bool.{cases_Bool, cases_order, eqb-true, and_parts, not-true}
-use Rattle.std.specs.Ordering.{is_lt, is_gt, is_eq, ordering_then, ordering_reverse}
+use Rattle.std.proofs.lemmas.Bool.{cases_Bool, cases_order, eqb-true}
+use Rattle.std.specs.Ordering.{is_lt, is_eq, ordering_then, ordering_reverse}
 use Rattle.names.specs.Names.{node_name}
 use Rattle.names.specs.Orders.{name_order, path_order, rank}
 use Rattle.names.specs.Paths.{root, path_text, stem, child, leaf, parent, plain}
@@ -11,16 +11,16 @@ use Rattle.names.proofs.NameLaws.{node_names}
 use Rattle.names.proofs.Orders.{above, path_order_lem, child_after, longer_after, front_shared, siblings}
 use Rattle.names.proofs.PathLaws.{by-root, path_starts, path_splits, slashless, stem-root, stem-other, child_leaf}
 use Rattle.tree.specs.Maps.{find}
-use Rattle.tree.specs.Places.{Bytes, Place, node_at, property_at, order}
-use Rattle.tree.specs.Trees.{Places, Tree, Sound, look}
+use Rattle.tree.specs.Places.{Bytes, Place, node_at, order}
+use Rattle.tree.specs.Trees.{Tree, Sound, look}
 use Rattle.tree.proofs.Maps.{some-none, some_one}
 use Rattle.store.specs.Calls.{later, least_after, child_on, names}
-use Rattle.walk.specs.Walks.{behind, beyond, first_path}
-use Rattle.walk.proofs.Ancestors.{In, front-between, before-slash, slash-split, some_byte}
+use Rattle.walk.specs.Walks.{beyond, first_path}
+use Rattle.walk.proofs.Ancestors.{front-between, before-slash, slash-split, some_byte}
 use Rattle.walk.proofs.Behind.{is-less, less-is, up-beyond, behind-find, behind-same, behind-none, Head, head_of}
 use Rattle.walk.proofs.Least.{least-in, least-least, Ahead, names_in, names-out, child-on, on-child}
 use Rattle.walk.proofs.Marks.{mark, key, end_of, Asked, mark-plain, mark-none, key-child, end-key}
-use Rattle.walk.proofs.Orders.{AtMost, less_greater, equal_less, never_less, most-less, most-not-less, root-most}
+use Rattle.walk.proofs.Orders.{AtMost, less_greater, equal_less, never_less, most-not-less, root-most}
 
 pub equal_greater : Equal ≡ Greater → ⊥
 equal_greater e = true≢false (ap is_eq e)

@@ -1,16 +1,16 @@
 -- A loop over the nodes, by what the walk answers. Assumes nothing.
-use Rattle.std.proofs.Common.{◌≡◌, ℕ, ◌+◌, ◌<◌, ◌≤◌, Bool, true, false, cond, ◌||◌, eqb, leb, ◌⊎◌, List, [], ◌∷◌, ◌++◌, length, take, drop, Some, None, Ok, Err, Option, Result, sym, refl, ap, ◌∙◌, subst, inl, inr, ⊎_elim, true≢false, arith}
-use Rattle.std.proofs.lemmas.Bool.{cases_Bool, cond-true, cond-false, and_parts, leb-true}
+use Rattle.std.proofs.Common.{◌≡◌, ℕ, ◌<◌, ◌≤◌, Bool, true, false, ◌||◌, eqb, leb, ◌⊎◌, [], ◌∷◌, length, take, Some, None, Ok, Err, Option, Result, sym, refl, ap, ◌∙◌, inl, inr, ⊎_elim, arith}
+use Rattle.std.proofs.lemmas.Bool.{and_parts, leb-true}
 use Rattle.names.specs.Paths.{path_text}
 use Rattle.tree.specs.Places.{Bytes, node_at}
-use Rattle.tree.specs.Trees.{Tree, Sound, look, nodes}
+use Rattle.tree.specs.Trees.{Tree, look, nodes}
 use Rattle.store.specs.Calls.{Meaning, closed, holds, Good, tested, there, length_of, named}
 use Rattle.store.specs.declared.Refusal.{Refusal}
 use Rattle.store.specs.declared.Refusal.TheVariants.{BadName, Absent, Short, Closed}
 use Rattle.walk.specs.Steps.{Stands}
 use Rattle.walk.specs.Walks.{beyond, first_path, next_node}
-use Rattle.walk.proofs.Climbs.{three_pass, node-asked, by-some, by-none, by_err}
-use Rattle.walk.proofs.Loops.{Step, step, no_step, beyond-all}
+use Rattle.walk.proofs.Climbs.{node-asked, by-some, by-none, by_err}
+use Rattle.walk.proofs.Loops.{step}
 
 -- an answer behind three tests
 three_ok : {A : Type 0} (x y z : Bool) (e f g : Refusal) (a b : A) → tested ((x, e) ∷ (y, f) ∷ (z, g) ∷ []) a ≡ Ok b → a ≡ b

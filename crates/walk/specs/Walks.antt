@@ -1,5 +1,5 @@
 -- A walk over the nodes of a tree in document order. Assumes nothing.
-use Rattle.std.specs.Prelude.{ℕ, Bool, cond, ◌||◌, List, [], ◌∷◌, length, Some, None, Err, Option, Result, ◌==◌, nat_le}
+use Rattle.std.specs.Prelude.{ℕ, Bool, cond, ◌||◌, [], ◌∷◌, length, Some, None, Err, Option, Result, ◌==◌, nat_le}
 use Rattle.std.specs.Ordering.{is_lt}
 use Rattle.names.specs.Orders.{path_order}
 use Rattle.names.specs.Paths.{path_text}

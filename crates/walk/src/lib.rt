@@ -1,3 +1,4 @@
 // Walks over any readable tree in document order.
 #![tactic(auto)]
+
 pub mod walk;

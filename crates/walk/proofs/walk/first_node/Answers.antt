@@ -1,4 +1,4 @@
-use Rattle.std.proofs.Common.{◌≡◌, length, sym, refl, ap, ◌∙◌, subst, arith}
+use Rattle.std.proofs.Common.{length, sym, ap, ◌∙◌, arith}
 use Rattle.store.specs.Calls.{length_of, named}
 use Rattle.walk.proofs.Starts.{first_ok, root_over}
 use Rattle.walk.proofs.walk.first_node.Goals as goal
