@@ -1,3 +1,4 @@
 // Searches for phandles in any readable tree.
 #![tactic(auto)]
+
 pub mod handles;
