@@ -1,11 +1,6 @@
 -- Names have no zero byte. Assumes nothing.
-<<<<<<< HEAD
-use Rattle.std.proofs.Common.{◌≡◌, ℕ, suc, ◌≤◌, Bool, true, false, not, ◌&&◌, eqb, leb, List, [], ◌∷◌, length, take, drop, sym, refl, ap, ◌∙◌, subst, ⊎_elim}
-use Rattle.std.specs.List.{AllByRecursion}
-=======
 use Rattle.std.proofs.Common.{◌≡◌, ℕ, suc, Bool, true, false, ◌&&◌, eqb, leb, [], ◌∷◌, length, take, drop, sym, refl, ap, ◌∙◌, subst, ⊎_elim}
-use Rattle.std.specs.List.{AllByRecursion as All}
->>>>>>> 1de8424528881a638f30d2f93aee70da190a0673
+use Rattle.std.specs.List.{AllByRecursion}
 use Rattle.std.proofs.lemmas.Bool.{and_parts, cases_eq, eqb-true, eq-eqb, ne_eqb, cond-true, cond-false, true≢false}
 use Rattle.names.specs.Names.{node_byte, property_byte, before, each, word, node_name, property_name}
 use Rattle.tree.specs.Places.{Bytes}

@@ -1,12 +1,6 @@
 -- The keys at which a walk stands: before the children of a node, or behind one of them with all below it. Assumes nothing.
-<<<<<<< HEAD
-use Rattle.std.proofs.Common.{◌≡◌, ℕ, ◌+◌, ◌<◌, ◌≤◌, Bool, true, false, cond, not, ◌&&◌, eqb, ◌⊎◌, List, [], ◌∷◌, ◌++◌, length, Ordering, Less, Equal, Greater, sym, refl, ap, ◌∙◌, subst, inl, inr, ⊎_elim, true≢false, append_assoc, arith}
-use Rattle.std.specs.List.{AllByRecursion}
-use Rattle.std.proofs.lemmas.Bool.{cases_Bool, cases_order, and_parts, and_from}
-=======
 use Rattle.std.proofs.Common.{◌≡◌, ℕ, true, not, eqb, ◌⊎◌, [], ◌∷◌, ◌++◌, length, sym, refl, ap, ◌∙◌, ⊎_elim, append_assoc, arith}
 use Rattle.std.proofs.lemmas.Bool.{cases_order, and_parts, and_from}
->>>>>>> 1de8424528881a638f30d2f93aee70da190a0673
 use Rattle.std.specs.Ordering.{is_lt, ordering_then}
 use Rattle.names.specs.Names.{node_name}
 use Rattle.names.specs.Orders.{name_order, path_order}

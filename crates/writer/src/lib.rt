@@ -1,3 +1,4 @@
 // Writes any readable tree as a blob.
 #![tactic(auto)]
+
 pub mod writer;
