@@ -11,40 +11,40 @@ pub loop-n-init : goal.loop-n-init
 loop-n-init g c =
     (refl, omega arith, walking_start (g.R.Readable.meaning c.args.tree.now), largest_start (g.R.Readable.meaning c.args.tree.now) (g.R.Readable.good c.args.tree.now))
 
-pub returns-in-err-n : goal.returns-in-err-n
-returns-in-err-n g c =
-    let t = turn_closed (g.R.Readable.meaning c.args.tree.now) c.loop-n.path c.loop-n.len (g.R.Readable.good c.args.tree.now) c.loop-n.invariant.0 c.loop-n.invariant.2 c.next-node.result c.next-node.new.path c.next-node.ensures.answer c.next-node.ensures.buffer c.in-err-n.field-0.0 c.in-err-n.was in
-    let p = err_from_is_err_and c.from-residual.result c.from-residual.ensures.1 in
-    p.1 ∙ ap Err p.2 ∙ largest_closed (g.R.Readable.meaning c.args.tree.now) c.in-err-n.field-0.0 t.0 t.1
+pub returns-in_err-n : goal.returns-in_err-n
+returns-in_err-n g c =
+    let t = turn_closed (g.R.Readable.meaning c.args.tree.now) c.loop-n.path c.loop-n.len (g.R.Readable.good c.args.tree.now) c.loop-n.invariant.0 c.loop-n.invariant.2 c.next_node.result c.next_node.new.path c.next_node.ensures.answer c.next_node.ensures.buffer c.in_err-n.field-0.0 c.in_err-n.was in
+    let p = err_from_is_err_and c.from_residual.result c.from_residual.ensures.1 in
+    p.1 ∙ ap Err p.2 ∙ largest_closed (g.R.Readable.meaning c.args.tree.now) c.in_err-n.field-0.0 t.0 t.1
 
-pub slice-bounds-phandle-at-end : goal.slice-bounds-phandle-at-end
-slice-bounds-phandle-at-end g c =
-    let t = turn_on (g.R.Readable.meaning c.args.tree.now) c.loop-n.path c.loop-n.len (g.R.Readable.good c.args.tree.now) c.loop-n.invariant.0 c.loop-n.invariant.2 c.next-node.result c.next-node.new.path c.next-node.ensures.answer c.next-node.ensures.buffer c.in-Some.n (c.in-ok-n.was ∙ ap Ok c.in-Some.is) in
+pub slice_bounds-phandle_at-end : goal.slice_bounds-phandle_at-end
+slice_bounds-phandle_at-end g c =
+    let t = turn_on (g.R.Readable.meaning c.args.tree.now) c.loop-n.path c.loop-n.len (g.R.Readable.good c.args.tree.now) c.loop-n.invariant.0 c.loop-n.invariant.2 c.next_node.result c.next_node.new.path c.next_node.ensures.answer c.next_node.ensures.buffer c.in-Some.n (c.in_ok-n.was ∙ ap Ok c.in-Some.is) in
     let s = t.short in
-    let k = c.next-node.auto.path in
+    let k = c.next_node.auto.path in
     let f = c.loop-n.invariant.0 in
     omega arith
 
-pub phandle-at-requires : goal.phandle-at-requires
-phandle-at-requires g c =
-    let t = turn_on (g.R.Readable.meaning c.args.tree.now) c.loop-n.path c.loop-n.len (g.R.Readable.good c.args.tree.now) c.loop-n.invariant.0 c.loop-n.invariant.2 c.next-node.result c.next-node.new.path c.next-node.ensures.answer c.next-node.ensures.buffer c.in-Some.n (c.in-ok-n.was ∙ ap Ok c.in-Some.is) in
-    subst (Stands (g.R.Readable.meaning c.args.tree.now)) (sym (less_none c.in-Some.n c.next-node.new.path)) t.reached.stands
+pub phandle_at-requires : goal.phandle_at-requires
+phandle_at-requires g c =
+    let t = turn_on (g.R.Readable.meaning c.args.tree.now) c.loop-n.path c.loop-n.len (g.R.Readable.good c.args.tree.now) c.loop-n.invariant.0 c.loop-n.invariant.2 c.next_node.result c.next_node.new.path c.next_node.ensures.answer c.next_node.ensures.buffer c.in-Some.n (c.in_ok-n.was ∙ ap Ok c.in-Some.is) in
+    subst (Stands (g.R.Readable.meaning c.args.tree.now)) (sym (less_none c.in-Some.n c.next_node.new.path)) t.reached.stands
 
 pub loop-n-smaller : goal.loop-n-smaller
 loop-n-smaller g c =
-    let t = turn_on (g.R.Readable.meaning c.args.tree.now) c.loop-n.path c.loop-n.len (g.R.Readable.good c.args.tree.now) c.loop-n.invariant.0 c.loop-n.invariant.2 c.next-node.result c.next-node.new.path c.next-node.ensures.answer c.next-node.ensures.buffer c.in-Some.n (c.in-ok-n.was ∙ ap Ok c.in-Some.is) in
+    let t = turn_on (g.R.Readable.meaning c.args.tree.now) c.loop-n.path c.loop-n.len (g.R.Readable.good c.args.tree.now) c.loop-n.invariant.0 c.loop-n.invariant.2 c.next_node.result c.next_node.new.path c.next_node.ensures.answer c.next_node.ensures.buffer c.in-Some.n (c.in_ok-n.was ∙ ap Ok c.in-Some.is) in
     t.reached.less
 
 pub loop-n-preserved : goal.loop-n-preserved
 loop-n-preserved g c =
     let M = g.R.Readable.meaning c.args.tree.now in
-    let t = turn_on (g.R.Readable.meaning c.args.tree.now) c.loop-n.path c.loop-n.len (g.R.Readable.good c.args.tree.now) c.loop-n.invariant.0 c.loop-n.invariant.2 c.next-node.result c.next-node.new.path c.next-node.ensures.answer c.next-node.ensures.buffer c.in-Some.n (c.in-ok-n.was ∙ ap Ok c.in-Some.is) in
+    let t = turn_on (g.R.Readable.meaning c.args.tree.now) c.loop-n.path c.loop-n.len (g.R.Readable.good c.args.tree.now) c.loop-n.invariant.0 c.loop-n.invariant.2 c.next_node.result c.next_node.new.path c.next_node.ensures.answer c.next_node.ensures.buffer c.in-Some.n (c.in_ok-n.was ∙ ap Ok c.in-Some.is) in
     let s = t.short in
-    let q : noted (handle_at M (take (c.in-Some.n - 0) c.next-node.new.path)) ≡ noted (handle_at M (take c.in-Some.n c.next-node.new.path)) = ap (λ x. noted (handle_at M x)) (less_none c.in-Some.n c.next-node.new.path) in
-    let h : c.in-ok-phandle-at.field-0 ≡ noted (handle_at M (take (c.in-Some.n - 0) c.next-node.new.path)) = ok_one (sym c.in-ok-phandle-at.was ∙ c.phandle-at.ensures) in
-    let m : c.max-best.result ≡ max c.loop-n.best (number_of (noted (handle_at M (take c.in-Some.n c.next-node.new.path)))) = c.max-best.ensures ∙ ap (max c.loop-n.best) (c.number-of.ensures ∙ ap number_of (h ∙ q)) in
-    (c.next-node.auto.path ∙ c.loop-n.invariant.0, omega arith, t.reached.walking, largest_step M (take c.loop-n.len c.loop-n.path) (take c.in-Some.n c.next-node.new.path) c.loop-n.best c.max-best.result (g.R.Readable.good c.args.tree.now) t.is m c.loop-n.invariant.3)
+    let q : noted (handle_at M (take (c.in-Some.n - 0) c.next_node.new.path)) ≡ noted (handle_at M (take c.in-Some.n c.next_node.new.path)) = ap (λ x. noted (handle_at M x)) (less_none c.in-Some.n c.next_node.new.path) in
+    let h : c.in_ok-phandle_at.field-0 ≡ noted (handle_at M (take (c.in-Some.n - 0) c.next_node.new.path)) = ok_one (sym c.in_ok-phandle_at.was ∙ c.phandle_at.ensures) in
+    let m : c.max-best.result ≡ max c.loop-n.best (number_of (noted (handle_at M (take c.in-Some.n c.next_node.new.path)))) = c.max-best.ensures ∙ ap (max c.loop-n.best) (c.number_of.ensures ∙ ap number_of (h ∙ q)) in
+    (c.next_node.auto.path ∙ c.loop-n.invariant.0, omega arith, t.reached.walking, largest_step M (take c.loop-n.len c.loop-n.path) (take c.in-Some.n c.next_node.new.path) c.loop-n.best c.max-best.result (g.R.Readable.good c.args.tree.now) t.is m c.loop-n.invariant.3)
 
 pub returns : goal.returns
 returns g c =
-    largest_done (g.R.Readable.meaning c.args.tree.now) (take c.loop-n.len c.loop-n.path) c.loop-n.best (g.R.Readable.good c.args.tree.now) (turn_done (g.R.Readable.meaning c.args.tree.now) c.loop-n.path c.loop-n.len (g.R.Readable.good c.args.tree.now) c.loop-n.invariant.0 c.loop-n.invariant.2 c.next-node.result c.next-node.new.path c.next-node.ensures.answer c.next-node.ensures.buffer (c.in-ok-n.was ∙ ap Ok c.in-default.is)) c.loop-n.invariant.3
+    largest_done (g.R.Readable.meaning c.args.tree.now) (take c.loop-n.len c.loop-n.path) c.loop-n.best (g.R.Readable.good c.args.tree.now) (turn_done (g.R.Readable.meaning c.args.tree.now) c.loop-n.path c.loop-n.len (g.R.Readable.good c.args.tree.now) c.loop-n.invariant.0 c.loop-n.invariant.2 c.next_node.result c.next_node.new.path c.next_node.ensures.answer c.next_node.ensures.buffer (c.in_ok-n.was ∙ ap Ok c.in_default.is)) c.loop-n.invariant.3

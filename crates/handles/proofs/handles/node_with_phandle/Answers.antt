@@ -15,77 +15,77 @@ pub loop-n-init : goal.loop-n-init
 loop-n-init g c =
     (refl, omega arith, walking_start (g.R.Readable.meaning c.args.tree.now), ap (holder_of c.args.number) (rest-start (g.R.Readable.meaning c.args.tree.now) (g.R.Readable.good c.args.tree.now)), refl)
 
-pub returns-in-err-n : goal.returns-in-err-n
-returns-in-err-n g c =
-    let t = turn_closed (g.R.Readable.meaning c.args.tree.now) c.loop-n.path c.loop-n.len (g.R.Readable.good c.args.tree.now) c.loop-n.invariant.0 c.loop-n.invariant.2 c.next-node.result c.next-node.new.path c.next-node.ensures.answer c.next-node.ensures.buffer c.in-err-n.field-0.0 c.in-err-n.was in
-    absurd (open_not-closed (g.R.Readable.meaning c.args.tree.now) c.in-ok-boot-cpu.field-0 (sym c.boot-cpu.ensures ∙ c.in-ok-boot-cpu.was) t.0)
+pub returns-in_err-n : goal.returns-in_err-n
+returns-in_err-n g c =
+    let t = turn_closed (g.R.Readable.meaning c.args.tree.now) c.loop-n.path c.loop-n.len (g.R.Readable.good c.args.tree.now) c.loop-n.invariant.0 c.loop-n.invariant.2 c.next_node.result c.next_node.new.path c.next_node.ensures.answer c.next_node.ensures.buffer c.in_err-n.field-0.0 c.in_err-n.was in
+    absurd (open_not-closed (g.R.Readable.meaning c.args.tree.now) c.in_ok-boot_cpu.field-0 (sym c.boot_cpu.ensures ∙ c.in_ok-boot_cpu.was) t.0)
 
-pub slice-bounds-phandle-at-end : goal.slice-bounds-phandle-at-end
-slice-bounds-phandle-at-end g c =
-    let t = turn_on (g.R.Readable.meaning c.args.tree.now) c.loop-n.path c.loop-n.len (g.R.Readable.good c.args.tree.now) c.loop-n.invariant.0 c.loop-n.invariant.2 c.next-node.result c.next-node.new.path c.next-node.ensures.answer c.next-node.ensures.buffer c.in-Some.n (c.in-ok-n.was ∙ ap Ok c.in-Some.is) in
+pub slice_bounds-phandle_at-end : goal.slice_bounds-phandle_at-end
+slice_bounds-phandle_at-end g c =
+    let t = turn_on (g.R.Readable.meaning c.args.tree.now) c.loop-n.path c.loop-n.len (g.R.Readable.good c.args.tree.now) c.loop-n.invariant.0 c.loop-n.invariant.2 c.next_node.result c.next_node.new.path c.next_node.ensures.answer c.next_node.ensures.buffer c.in-Some.n (c.in_ok-n.was ∙ ap Ok c.in-Some.is) in
     let s = t.short in
-    let k = c.next-node.auto.path in
+    let k = c.next_node.auto.path in
     let f = c.loop-n.invariant.0 in
     omega arith
 
-pub phandle-at-requires : goal.phandle-at-requires
-phandle-at-requires g c =
-    let t = turn_on (g.R.Readable.meaning c.args.tree.now) c.loop-n.path c.loop-n.len (g.R.Readable.good c.args.tree.now) c.loop-n.invariant.0 c.loop-n.invariant.2 c.next-node.result c.next-node.new.path c.next-node.ensures.answer c.next-node.ensures.buffer c.in-Some.n (c.in-ok-n.was ∙ ap Ok c.in-Some.is) in
-    subst (Stands (g.R.Readable.meaning c.args.tree.now)) (sym (less_none c.in-Some.n c.next-node.new.path)) t.reached.stands
+pub phandle_at-requires : goal.phandle_at-requires
+phandle_at-requires g c =
+    let t = turn_on (g.R.Readable.meaning c.args.tree.now) c.loop-n.path c.loop-n.len (g.R.Readable.good c.args.tree.now) c.loop-n.invariant.0 c.loop-n.invariant.2 c.next_node.result c.next_node.new.path c.next_node.ensures.answer c.next_node.ensures.buffer c.in-Some.n (c.in_ok-n.was ∙ ap Ok c.in-Some.is) in
+    subst (Stands (g.R.Readable.meaning c.args.tree.now)) (sym (less_none c.in-Some.n c.next_node.new.path)) t.reached.stands
 
-pub slice-bounds-copy-from-slice-end : goal.slice-bounds-copy-from-slice-end
-slice-bounds-copy-from-slice-end g c =
-    let t = turn_on (g.R.Readable.meaning c.args.tree.now) c.loop-n.path c.loop-n.len (g.R.Readable.good c.args.tree.now) c.loop-n.invariant.0 c.loop-n.invariant.2 c.next-node.result c.next-node.new.path c.next-node.ensures.answer c.next-node.ensures.buffer c.in-Some.n (c.in-ok-n.was ∙ ap Ok c.in-Some.is) in
+pub slice_bounds-copy_from_slice-end : goal.slice_bounds-copy_from_slice-end
+slice_bounds-copy_from_slice-end g c =
+    let t = turn_on (g.R.Readable.meaning c.args.tree.now) c.loop-n.path c.loop-n.len (g.R.Readable.good c.args.tree.now) c.loop-n.invariant.0 c.loop-n.invariant.2 c.next_node.result c.next_node.new.path c.next_node.ensures.answer c.next_node.ensures.buffer c.in-Some.n (c.in_ok-n.was ∙ ap Ok c.in-Some.is) in
     let s = t.short in
     let e = ap length c.loop-n.invariant.4 in
     omega arith
 
-pub slice-bounds-copy-from-slice-end-then-has-number : goal.slice-bounds-copy-from-slice-end-then-has-number
-slice-bounds-copy-from-slice-end-then-has-number g c =
-    let t = turn_on (g.R.Readable.meaning c.args.tree.now) c.loop-n.path c.loop-n.len (g.R.Readable.good c.args.tree.now) c.loop-n.invariant.0 c.loop-n.invariant.2 c.next-node.result c.next-node.new.path c.next-node.ensures.answer c.next-node.ensures.buffer c.in-Some.n (c.in-ok-n.was ∙ ap Ok c.in-Some.is) in
+pub slice_bounds-copy_from_slice-end-then-has_number : goal.slice_bounds-copy_from_slice-end-then-has_number
+slice_bounds-copy_from_slice-end-then-has_number g c =
+    let t = turn_on (g.R.Readable.meaning c.args.tree.now) c.loop-n.path c.loop-n.len (g.R.Readable.good c.args.tree.now) c.loop-n.invariant.0 c.loop-n.invariant.2 c.next_node.result c.next_node.new.path c.next_node.ensures.answer c.next_node.ensures.buffer c.in-Some.n (c.in_ok-n.was ∙ ap Ok c.in-Some.is) in
     let s = t.short in
-    let k = c.next-node.auto.path in
+    let k = c.next_node.auto.path in
     let f = c.loop-n.invariant.0 in
     omega arith
 
-pub returns-then-has-number : goal.returns-then-has-number
-returns-then-has-number g c =
+pub returns-then-has_number : goal.returns-then-has_number
+returns-then-has_number g c =
     let M = g.R.Readable.meaning c.args.tree.now in
-    let t = turn_on (g.R.Readable.meaning c.args.tree.now) c.loop-n.path c.loop-n.len (g.R.Readable.good c.args.tree.now) c.loop-n.invariant.0 c.loop-n.invariant.2 c.next-node.result c.next-node.new.path c.next-node.ensures.answer c.next-node.ensures.buffer c.in-Some.n (c.in-ok-n.was ∙ ap Ok c.in-Some.is) in
+    let t = turn_on (g.R.Readable.meaning c.args.tree.now) c.loop-n.path c.loop-n.len (g.R.Readable.good c.args.tree.now) c.loop-n.invariant.0 c.loop-n.invariant.2 c.next_node.result c.next_node.new.path c.next_node.ensures.answer c.next_node.ensures.buffer c.in-Some.n (c.in_ok-n.was ∙ ap Ok c.in-Some.is) in
     let n : ℕ = c.in-Some.n in
-    let q : List ℕ = take n c.next-node.new.path in
-    let cut = less_none n c.next-node.new.path in
-    let h : c.in-ok-phandle-at.field-0 ≡ noted (handle_at M (take (n - 0) c.next-node.new.path)) = ok_one (sym c.in-ok-phandle-at.was ∙ c.phandle-at.ensures) in
-    let hit : has_number (noted (handle_at M q)) c.args.number ≡ true = sym (ap (λ x. has_number x c.args.number) (h ∙ ap (λ x. noted (handle_at M x)) cut)) ∙ sym c.has-number.ensures ∙ c.if-has-number.true in
+    let q : List ℕ = take n c.next_node.new.path in
+    let cut = less_none n c.next_node.new.path in
+    let h : c.in_ok-phandle_at.field-0 ≡ noted (handle_at M (take (n - 0) c.next_node.new.path)) = ok_one (sym c.in_ok-phandle_at.was ∙ c.phandle_at.ensures) in
+    let hit : has_number (noted (handle_at M q)) c.args.number ≡ true = sym (ap (λ x. has_number x c.args.number) (h ∙ ap (λ x. noted (handle_at M x)) cut)) ∙ sym c.has_number.ensures ∙ c.if-has_number.true in
     let all = found_here M (take c.loop-n.len c.loop-n.path) q c.args.number (g.R.Readable.good c.args.tree.now) t.is hit c.loop-n.invariant.3 in
-    let is = holder-is M c.in-ok-boot-cpu.field-0 c.args.number (length c.args.out.now) (sym c.boot-cpu.ensures ∙ c.in-ok-boot-cpu.was) (omega arith) ∙ ap Ok all in
+    let is = holder-is M c.in_ok-boot_cpu.field-0 c.args.number (length c.args.out.now) (sym c.boot_cpu.ensures ∙ c.in_ok-boot_cpu.was) (omega arith) ∙ ap Ok all in
     let size = t.size in
     let zero : n - 0 ≡ length q = omega arith in
     record {
       answer = ap (λ x. Ok (Some x)) (sym size) ∙ ap length_of (sym is);
-      buffer = (λ i. (c.copy-from-slice.ensures.after ∙ cut) i ++ drop (zero i) (c.loop-n.invariant.4 i)) ∙ ap (λ x. named x c.args.out.now) (sym is);
+      buffer = (λ i. (c.copy_from_slice.ensures.after ∙ cut) i ++ drop (zero i) (c.loop-n.invariant.4 i)) ∙ ap (λ x. named x c.args.out.now) (sym is);
     }
 
 pub loop-n-smaller : goal.loop-n-smaller
 loop-n-smaller g c =
-    let t = turn_on (g.R.Readable.meaning c.args.tree.now) c.loop-n.path c.loop-n.len (g.R.Readable.good c.args.tree.now) c.loop-n.invariant.0 c.loop-n.invariant.2 c.next-node.result c.next-node.new.path c.next-node.ensures.answer c.next-node.ensures.buffer c.in-Some.n (c.in-ok-n.was ∙ ap Ok c.in-Some.is) in
+    let t = turn_on (g.R.Readable.meaning c.args.tree.now) c.loop-n.path c.loop-n.len (g.R.Readable.good c.args.tree.now) c.loop-n.invariant.0 c.loop-n.invariant.2 c.next_node.result c.next_node.new.path c.next_node.ensures.answer c.next_node.ensures.buffer c.in-Some.n (c.in_ok-n.was ∙ ap Ok c.in-Some.is) in
     t.reached.less
 
 pub loop-n-preserved : goal.loop-n-preserved
 loop-n-preserved g c =
     let M = g.R.Readable.meaning c.args.tree.now in
-    let t = turn_on (g.R.Readable.meaning c.args.tree.now) c.loop-n.path c.loop-n.len (g.R.Readable.good c.args.tree.now) c.loop-n.invariant.0 c.loop-n.invariant.2 c.next-node.result c.next-node.new.path c.next-node.ensures.answer c.next-node.ensures.buffer c.in-Some.n (c.in-ok-n.was ∙ ap Ok c.in-Some.is) in
+    let t = turn_on (g.R.Readable.meaning c.args.tree.now) c.loop-n.path c.loop-n.len (g.R.Readable.good c.args.tree.now) c.loop-n.invariant.0 c.loop-n.invariant.2 c.next_node.result c.next_node.new.path c.next_node.ensures.answer c.next_node.ensures.buffer c.in-Some.n (c.in_ok-n.was ∙ ap Ok c.in-Some.is) in
     let s = t.short in
     let n : ℕ = c.in-Some.n in
-    let cut = less_none n c.next-node.new.path in
-    let h : c.in-ok-phandle-at.field-0 ≡ noted (handle_at M (take (n - 0) c.next-node.new.path)) = ok_one (sym c.in-ok-phandle-at.was ∙ c.phandle-at.ensures) in
-    let miss : has_number (noted (handle_at M (take n c.next-node.new.path))) c.args.number ≡ false = sym (ap (λ x. has_number x c.args.number) (h ∙ ap (λ x. noted (handle_at M x)) cut)) ∙ sym c.has-number.ensures ∙ c.if-has-number.false in
-    (c.next-node.auto.path ∙ c.loop-n.invariant.0, omega arith, t.reached.walking, found-later M (take c.loop-n.len c.loop-n.path) (take n c.next-node.new.path) c.args.number (g.R.Readable.good c.args.tree.now) t.is miss c.loop-n.invariant.3, c.loop-n.invariant.4)
+    let cut = less_none n c.next_node.new.path in
+    let h : c.in_ok-phandle_at.field-0 ≡ noted (handle_at M (take (n - 0) c.next_node.new.path)) = ok_one (sym c.in_ok-phandle_at.was ∙ c.phandle_at.ensures) in
+    let miss : has_number (noted (handle_at M (take n c.next_node.new.path))) c.args.number ≡ false = sym (ap (λ x. has_number x c.args.number) (h ∙ ap (λ x. noted (handle_at M x)) cut)) ∙ sym c.has_number.ensures ∙ c.if-has_number.false in
+    (c.next_node.auto.path ∙ c.loop-n.invariant.0, omega arith, t.reached.walking, found-later M (take c.loop-n.len c.loop-n.path) (take n c.next_node.new.path) c.args.number (g.R.Readable.good c.args.tree.now) t.is miss c.loop-n.invariant.3, c.loop-n.invariant.4)
 
 pub returns : goal.returns
 returns g c =
     let M = g.R.Readable.meaning c.args.tree.now in
-    let d = turn_done (g.R.Readable.meaning c.args.tree.now) c.loop-n.path c.loop-n.len (g.R.Readable.good c.args.tree.now) c.loop-n.invariant.0 c.loop-n.invariant.2 c.next-node.result c.next-node.new.path c.next-node.ensures.answer c.next-node.ensures.buffer (c.in-ok-n.was ∙ ap Ok c.in-default.is) in
+    let d = turn_done (g.R.Readable.meaning c.args.tree.now) c.loop-n.path c.loop-n.len (g.R.Readable.good c.args.tree.now) c.loop-n.invariant.0 c.loop-n.invariant.2 c.next_node.result c.next_node.new.path c.next_node.ensures.answer c.next_node.ensures.buffer (c.in_ok-n.was ∙ ap Ok c.in_default.is) in
     let all = found-never M (take c.loop-n.len c.loop-n.path) c.args.number (g.R.Readable.good c.args.tree.now) d c.loop-n.invariant.3 in
-    let is = holder-is M c.in-ok-boot-cpu.field-0 c.args.number (length c.args.out.now) (sym c.boot-cpu.ensures ∙ c.in-ok-boot-cpu.was) (omega arith) ∙ ap Ok all in
+    let is = holder-is M c.in_ok-boot_cpu.field-0 c.args.number (length c.args.out.now) (sym c.boot_cpu.ensures ∙ c.in_ok-boot_cpu.was) (omega arith) ∙ ap Ok all in
     record { answer = ap length_of (sym is); buffer = c.loop-n.invariant.4 ∙ ap (λ x. named x c.args.out.now) (sym is) }
