@@ -10,11 +10,11 @@ pub returns-in-None : goal.returns-in-None
 returns-in-None g c =
     ap Ok (sym (absent (g.R.Readable.meaning c.args.tree.now) c.args.path.now (g.R.Readable.good c.args.tree.now) c.requires (sym c.value_len.ensures ∙ c.in_ok-value_len.was ∙ ap Ok c.in-None.is)))
 
-pub returns-in-err-copy-value : goal.returns-in-err-copy-value
-returns-in-err-copy-value g c =
+pub returns-in_err-copy_value-in-Some : goal.returns-in_err-copy_value-in-Some
+returns-in_err-copy_value-in-Some g c =
     absurd (copy_never (g.R.Readable.meaning c.args.tree.now) c.args.path.now (g.R.Readable.good c.args.tree.now) c.requires c.in-Some.len c.in-err-copy-value.field-0.0 (sym c.value_len.ensures ∙ c.in_ok-value_len.was ∙ ap Ok c.in-Some.is) (sym c.copy_value.ensures.answer ∙ c.in-err-copy-value.was))
 
-pub returns-in-ok-copy-value : goal.returns-in-ok-copy-value
-returns-in-ok-copy-value g c =
+pub returns-in_ok-copy_value-in-Some : goal.returns-in_ok-copy_value-in-Some
+returns-in_ok-copy_value-in-Some g c =
     ap Ok ((λ i. Rattle.std.specs.declared.option.Option.TheVariants.Some (record { len = c.in-Some.len; number = c.be32_at-number.ensures i }))
     ∙ sym (present (g.R.Readable.meaning c.args.tree.now) c.args.path.now (g.R.Readable.good c.args.tree.now) c.requires c.in-Some.len c.copy_value.new.out (sym c.value_len.ensures ∙ c.in_ok-value_len.was ∙ ap Ok c.in-Some.is) c.copy_value.ensures.buffer))
