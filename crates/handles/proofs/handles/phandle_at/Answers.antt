@@ -12,7 +12,7 @@ returns-in-None g c =
 
 pub returns-in_err-copy_value-in-Some : goal.returns-in_err-copy_value-in-Some
 returns-in_err-copy_value-in-Some g c =
-    absurd (copy_never (g.R.Readable.meaning c.args.tree.now) c.args.path.now (g.R.Readable.good c.args.tree.now) c.requires c.in-Some.len c.in-err-copy-value.field-0.0 (sym c.value_len.ensures ∙ c.in_ok-value_len.was ∙ ap Ok c.in-Some.is) (sym c.copy_value.ensures.answer ∙ c.in-err-copy-value.was))
+    absurd (copy_never (g.R.Readable.meaning c.args.tree.now) c.args.path.now (g.R.Readable.good c.args.tree.now) c.requires c.in-Some.len c.in_err-copy_value-in-Some.field-0.0 (sym c.value_len.ensures ∙ c.in_ok-value_len.was ∙ ap Ok c.in-Some.is) (sym c.copy_value.ensures.answer ∙ c.in_err-copy_value-in-Some.was))
 
 pub returns-in_ok-copy_value-in-Some : goal.returns-in_ok-copy_value-in-Some
 returns-in_ok-copy_value-in-Some g c =
