@@ -1,5 +1,6 @@
 // Lists devicetree blobs.
 #![tactic(auto)]
+
 use listing::page::list;
 use std::io::Write;
 use std::{env, fs, io};

@@ -1,7 +1,6 @@
 -- What one node adds to a search. Assumes nothing.
-use Rattle.std.proofs.Common.{◌≡◌, ℕ, ◌<◌, ◌≤◌, max, Bool, true, false, cond, leb, List, [], ◌∷◌, ◌++◌, Some, None, Ok, Err, Option, Result, sym, refl, ap, ◌∙◌, subst, arith}
+use Rattle.std.proofs.Common.{◌≡◌, ℕ, ◌<◌, ◌≤◌, max, true, false, cond, leb, List, [], ◌++◌, Some, None, Ok, Err, Option, sym, refl, ap, ◌∙◌, arith}
 use Rattle.std.proofs.lemmas.Bool.{cond-true, cond-false, le-leb, lt-leb}
-use Rattle.tree.specs.Numbers.{be32}
 use Rattle.tree.specs.Phandles.{largest_of, holder_of}
 use Rattle.tree.specs.Places.{Bytes}
 use Rattle.store.specs.Calls.{Meaning, closed, holds, Good, boot_of}

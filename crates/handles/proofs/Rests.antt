@@ -1,5 +1,5 @@
 -- The phandles that a walk has yet to come to. Assumes nothing.
-use Rattle.std.proofs.Common.{◌≡◌, ℕ, ◌+◌, ◌<◌, ◌≤◌, Bool, true, false, cond, ◌⊎◌, List, [], ◌∷◌, ◌++◌, Some, None, Ok, Err, codes, Option, Ordering, Less, Equal, Greater, sym, refl, ap, ◌∙◌, subst, inl, inr, ⊎_elim, true≢false, arith}
+use Rattle.std.proofs.Common.{◌≡◌, ℕ, List, [], ◌∷◌, ◌++◌, Some, None, Ok, Option, Ordering, Less, Equal, Greater, sym, refl, ap, ◌∙◌, subst, ⊎_elim, true≢false, arith}
 use Rattle.std.specs.Str.{bytes_eq}
 use Rattle.std.proofs.lemmas.Slice.Eq.{bytes_eq-Decides}
 use Rattle.std.proofs.lemmas.Bool.{cases_Bool, cond-true, cond-false}
@@ -8,15 +8,15 @@ use Rattle.names.specs.Orders.{name_order, path_order}
 use Rattle.names.proofs.Orders.{name_order_lem}
 use Rattle.tree.specs.Maps.{find, Below, Rises}
 use Rattle.tree.specs.Phandles.{is_phandle, handle_on, handles}
-use Rattle.tree.specs.Places.{Bytes, Place, node_at, property_at, order}
-use Rattle.tree.specs.Trees.{Places, Tree, Sound, look}
+use Rattle.tree.specs.Places.{Bytes, node_at, property_at, order}
+use Rattle.tree.specs.Trees.{Places}
 use Rattle.tree.proofs.Maps.{find-below}
 use Rattle.tree.proofs.Places.{place-order}
 use Rattle.store.specs.Calls.{Meaning, closed, holds, Good}
 use Rattle.walk.specs.Walks.{behind, beyond, next_node, first_path}
 use Rattle.walk.proofs.Behind.{less-is, not-less, behind-here, behind-past}
-use Rattle.walk.proofs.Loops.{step, Step, no_step, beyond-all}
-use Rattle.walk.proofs.Orders.{less-paths, paths-less, paths-same, equal_less, less_greater, never_less}
+use Rattle.walk.proofs.Loops.{step, no_step, beyond-all}
+use Rattle.walk.proofs.Orders.{less-paths, paths-less, paths-same, equal_less, never_less}
 use Rattle.walk.proofs.Runs.{below-tail, below_less}
 use Rattle.walk.proofs.Walking.{answered}
 use Rattle.handles.specs.Searches.{handle_at}

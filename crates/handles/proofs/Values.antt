@@ -1,18 +1,15 @@
 -- The phandle of one node, by the questions for it. Assumes nothing.
-use Rattle.std.proofs.Common.{◌≡◌, ℕ, ◌+◌, ◌-◌, ◌*◌, ◌<◌, ◌≤◌, Bool, true, false, cond, ◌&&◌, leb, ◌⊎◌, List, [], ◌∷◌, ◌++◌, length, get_or, drop, replicate, Some, None, Ok, Err, codes, Option, Result, sym, refl, ap, ◌∙◌, subst, inl, inr, ⊎_elim, arith}
+use Rattle.std.proofs.Common.{◌≡◌, ℕ, ◌+◌, ◌-◌, ◌*◌, ◌<◌, ◌≤◌, true, ◌&&◌, leb, [], ◌++◌, length, get_or, drop, replicate, Some, None, Ok, Err, codes, Option, sym, refl, ap, ◌∙◌, ⊎_elim, arith}
 use Rattle.std.proofs.lemmas.List.{get_or_append_left, get_or-append_right, get_or_past, get_or-replicate, drop-replicate}
 use Rattle.std.proofs.lemmas.Bool.{cases_lt, cond-true, and_from, and_parts, leb-true}
 use Rattle.names.specs.Names.{node_byte, property_byte, property_name}
 use Rattle.names.specs.Paths.{path_text}
 use Rattle.tree.specs.Numbers.{be32}
 use Rattle.tree.specs.Places.{Bytes, node_at, property_at}
-use Rattle.tree.specs.Trees.{Tree, Sound, look, short_place}
-use Rattle.store.specs.Calls.{Meaning, closed, holds, Good, tested, value_at, length_of, copied, filled, over}
+use Rattle.store.specs.Calls.{Meaning, closed, holds, Good, value_at, length_of, copied, filled, over}
 use Rattle.store.specs.declared.Refusal.{Refusal}
-use Rattle.store.specs.declared.Refusal.TheVariants.{BadName, Short}
 use Rattle.walk.specs.Steps.{Stands}
 use Rattle.handles.specs.Searches.{handle_at, noted}
-use Rattle.handles.specs.declared.handles.Handle.{Handle}
 
 abbrev pub PH : Bytes
 PH = codes "phandle"

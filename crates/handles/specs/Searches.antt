@@ -1,9 +1,9 @@
 -- What the searches for phandles answer. Assumes nothing.
-use Rattle.std.specs.Prelude.{◌≡◌, ℕ, Bool, true, false, cond, List, [], ◌∷◌, ◌++◌, length, Some, None, Ok, Err, codes, Option, Result, ◌==◌, nat_le}
+use Rattle.std.specs.Prelude.{ℕ, Bool, false, [], ◌∷◌, length, Some, None, Ok, Err, codes, Option, Result, ◌==◌, nat_le}
 use Rattle.tree.specs.Numbers.{be32}
 use Rattle.tree.specs.Phandles.{largest_phandle, holder, phandle_rule}
 use Rattle.tree.specs.Places.{Bytes, property_at}
-use Rattle.tree.specs.Trees.{Tree, look}
+use Rattle.tree.specs.Trees.{look}
 use Rattle.store.specs.Calls.{Meaning, closed, holds, tested}
 use Rattle.store.specs.declared.Refusal.{Refusal}
 use Rattle.store.specs.declared.Refusal.TheVariants.{Closed, Short}

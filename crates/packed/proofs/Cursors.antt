@@ -1,21 +1,15 @@
 -- Tokens that stand in the memory from some byte on. Assumes nothing.
-use Rattle.std.proofs.Common.{◌≡◌, ℕ, zero, suc, ◌+◌, ◌-◌, ◌*◌, ◌/◌, ◌%◌, ◌^◌, ◌<◌, ◌≤◌, true, List, [], ◌∷◌, ◌++◌, map, length, get_or, take, drop, replicate, sym, refl, ap, ◌∙◌, subst, append_assoc, append-nil, add-zero, add_assoc, arith, length-append}
-use lib.ListN.{replicate-append-replicate}
-use Rattle.std.proofs.lemmas.List.{get_or-drop, get_or-append-add, drop_at, drop-drop, drop_more, take_at, take-append-drop, length-drop, take_more, drop_all, map-append}
+use Rattle.std.proofs.Common.{◌≡◌, ℕ, zero, suc, ◌+◌, ◌-◌, ◌^◌, ◌<◌, ◌≤◌, List, [], ◌∷◌, ◌++◌, length, get_or, take, drop, replicate, sym, refl, ap, ◌∙◌, append_assoc, add-zero, add_assoc, arith, length-append}
+use Rattle.std.proofs.lemmas.List.{get_or-drop, drop_at, drop-drop, take_at, take-append-drop, length-drop}
 use Rattle.std.specs.List.{between, AllByRecursion}
 use Rattle.names.specs.Names.{before}
 use Rattle.tree.specs.Numbers.{be32, bytes32, pad4}
 use Rattle.tree.specs.Places.{Bytes}
 use Rattle.blob.specs.Tokens.{Tok, begin, property, end, nop, finish}
-use Rattle.tape.specs.Nodes.{Node, Property, shaped, fits}
-use Rattle.tape.specs.Tapes.{nth, properties_at, nowhere}
-use Rattle.tape.proofs.Around.{root-parts}
-use Rattle.tape.proofs.Finds.{fit_parts}
-use Rattle.packed.specs.Packing.{padded, token_bytes, token_size, name_bytes, name_size, structure, strings, size_of, names_of, packed, ends, property_tokens, tokens_of, front, open_after, spot_of, begin_of, first_of, mark_of}
+use Rattle.packed.specs.Packing.{token_bytes, token_size, name_size, structure, strings, size_of, names_of, packed}
 use Rattle.packed.specs.Regions.{memory, Holding, At, IsFull}
 use Rattle.packed.specs.declared.region.Region.{Region}
-use Rattle.packed.proofs.Tokens.{token-size, size_is, names-is, structure_join, strings_join, size_join, names_join, size-one, names-one, size-ends, names-ends}
-use Rattle.packed.proofs.Nodes.{tokens_join, front_join, open_join}
+use Rattle.packed.proofs.Tokens.{size_is, names-is, structure_join, strings_join, size_join, names_join}
 
 -- ---- numbers in bytes
 

@@ -1,25 +1,25 @@
 -- The tokens and the nodes of a blob in the memory are those that it was made of. Assumes nothing.
-use Rattle.std.proofs.Common.{◌≡◌, ℕ, zero, suc, ◌+◌, ◌-◌, ◌*◌, ◌^◌, ◌<◌, ◌≤◌, Bool, true, false, cond, ◌&&◌, eqb, ltb, leb, List, [], ◌∷◌, ◌++◌, length, take, drop, Some, None, sym, refl, ap, ◌∙◌, subst, ⊎_elim, add-zero, add_assoc, arith}
+use Rattle.std.proofs.Common.{◌≡◌, ℕ, zero, suc, ◌+◌, ◌-◌, ◌<◌, ◌≤◌, true, false, eqb, leb, List, [], ◌∷◌, ◌++◌, length, take, drop, sym, refl, ap, ◌∙◌, subst, arith}
 use Rattle.std.proofs.lemmas.Slice.Eq.{bytes_eq-Decides}
 use Rattle.std.proofs.lemmas.List.{take_at}
-use Rattle.std.proofs.lemmas.Bool.{and_parts, and_from, cases_Bool, cond-true, cond-false, eqb-true, eqb-false, eq-eqb, ne_eqb, leb-true, le-leb, lt-leb}
-use Rattle.std.specs.List.{between, AllByRecursion}
+use Rattle.std.proofs.lemmas.Bool.{and_parts, and_from, cond-true, cond-false, eqb-true, eq-eqb, ne_eqb, leb-true, le-leb, lt-leb}
+use Rattle.std.specs.List.{AllByRecursion}
 use Rattle.std.specs.Str.{bytes_eq}
 use Rattle.tree.specs.Numbers.{be32, pad4}
 use Rattle.tree.specs.Places.{Bytes}
-use Rattle.blob.specs.Grammar.{Text, Mark, Begins, Holds, IsToken}
-use Rattle.blob.specs.Lexing.{Tokens, tokens_from}
+use Rattle.blob.specs.Grammar.{Text, IsToken}
+use Rattle.blob.specs.Lexing.{tokens_from}
 use Rattle.blob.specs.Tokens.{Tok, begin, property, end, nop, finish, token_at}
 use Rattle.blob.proofs.Lexed.{tokens_none, tokens-some}
 use Rattle.blob.proofs.Shapes.{token-complete}
-use Rattle.tape.specs.Nodes.{Node, shaped, valid}
+use Rattle.tape.specs.Nodes.{Node, valid}
 use Rattle.tape.specs.Tapes.{properties_of}
 use Rattle.tape.proofs.Sounds.{parts}
 use Rattle.tape.proofs.Sums.{within_limits}
-use Rattle.packed.specs.Packing.{token_size, name_size, structure, strings, size_of, names_of, packed, ends, property_tokens, tokens_of, gathered}
+use Rattle.packed.specs.Packing.{token_size, strings, size_of, names_of, packed, ends, property_tokens, tokens_of, gathered}
 use Rattle.packed.specs.Regions.{memory, layout, size, bare, read, nodes_of, holds, intact, Holding, Open, IsFull}
 use Rattle.packed.specs.declared.region.Region.{Region}
-use Rattle.packed.proofs.Cursors.{Cursor, pass, at-start, kind_at, size-at, offset_at, value-at, name-at, take-over}
+use Rattle.packed.proofs.Cursors.{Cursor, at-start, size-at, offset_at, value-at, name-at, take-over}
 use Rattle.packed.proofs.Named.{full-valid}
 use Rattle.packed.proofs.Nodes.{gathered-back, sizes}
 use Rattle.packed.proofs.Spots.{pass-one, kind-is, room-one}

@@ -1,8 +1,8 @@
 -- Tokens put into a blob and taken out of it, as bytes. Assumes nothing.
-use Rattle.std.proofs.Common.{◌≡◌, ℕ, ◌+◌, ◌-◌, ◌<◌, ◌≤◌, List, [], ◌∷◌, ◌++◌, length, take, drop, replicate, sym, refl, ap, ◌∙◌, subst, append_assoc, append-nil, add-zero, arith, length-append}
+use Rattle.std.proofs.Common.{◌≡◌, ℕ, ◌+◌, ◌≤◌, List, [], ◌∷◌, ◌++◌, length, take, drop, replicate, sym, refl, ap, ◌∙◌, append_assoc, arith, length-append}
 use Rattle.std.proofs.lemmas.List.{take-append-drop, take_at, length-take-le}
 use Rattle.tree.specs.Places.{Bytes}
-use Rattle.blob.specs.Tokens.{Tok, begin, property, end, nop, finish}
+use Rattle.blob.specs.Tokens.{Tok, begin, end}
 use Rattle.packed.specs.Packing.{token_bytes, token_size, name_bytes, name_size, structure, strings, size_of, names_of, header_bytes, packed}
 use Rattle.packed.specs.Regions.{memory, Holding}
 use Rattle.packed.specs.Splices.{spliced_in, spliced_out, Resized}

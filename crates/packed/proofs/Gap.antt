@@ -1,7 +1,7 @@
 -- What a rotation leaves of the used part of a list. Assumes nothing.
-use Rattle.std.proofs.Common.{◌≡◌, ℕ, ◌+◌, ◌-◌, ◌<◌, ◌≤◌, List, [], ◌∷◌, ◌++◌, length, take, drop, sym, refl, ap, ◌∙◌, subst, append_assoc, arith, length-drop, length-take}
+use Rattle.std.proofs.Common.{◌≡◌, ℕ, ◌+◌, ◌-◌, ◌≤◌, List, ◌++◌, length, take, drop, sym, ap, ◌∙◌, append_assoc, arith, length-drop}
 use borrow.Rule.Slice.PartMut.{put_mid}
-use Rattle.std.proofs.lemmas.List.{length-append, length-take-le, take_at, drop_at, drop-drop, take-take, drop-take}
+use Rattle.std.proofs.lemmas.List.{length-append, length-take-le, take_at, drop-drop, take-take, drop-take}
 use Rattle.std.specs.List.{between}
 use Rattle.packed.specs.Splices.{spliced_in, spliced_out}
 

@@ -1,22 +1,19 @@
 -- What is read at a node and at a property. Assumes nothing.
-use Rattle.std.proofs.Common.{◌≡◌, ℕ, zero, suc, ◌+◌, ◌-◌, ◌*◌, ◌^◌, ◌<◌, ◌≤◌, List, [], ◌∷◌, ◌++◌, length, take, drop, sym, refl, ap, ◌∙◌, subst, ⊎_elim, add_assoc, arith}
+use Rattle.std.proofs.Common.{◌≡◌, ℕ, zero, suc, ◌+◌, ◌-◌, ◌<◌, ◌≤◌, List, [], ◌∷◌, ◌++◌, length, take, drop, refl, ap, ◌∙◌, subst, arith}
 use Rattle.names.specs.Names.{before}
 use Rattle.std.proofs.lemmas.List.{take_more, take_at, map-append}
-use Rattle.std.proofs.lemmas.Bool.{cases_lt}
 use Rattle.std.specs.List.{between}
 use Rattle.tree.specs.Numbers.{be32, pad4}
 use Rattle.tree.specs.Places.{Bytes}
 use Rattle.blob.specs.Tokens.{Tok, begin, property, finish}
 use Rattle.tape.specs.Nodes.{Node, Property}
-use Rattle.tape.specs.Tapes.{nth, properties_at, property_of, properties_of, Here, On}
-use Rattle.tape.specs.declared.Mark.{Mark}
-use Rattle.tape.specs.declared.Spot.{Spot}
-use Rattle.packed.specs.Packing.{token_size, size_of, strings, spot_of, begin_of, first_of, mark_of, property_tokens, tokens_of, ends}
+use Rattle.tape.specs.Tapes.{nth, properties_at, property_of, properties_of}
+use Rattle.packed.specs.Packing.{size_of, strings, begin_of, first_of, mark_of, property_tokens, tokens_of, ends}
 use Rattle.packed.specs.Regions.{memory, nodes_of, Open}
 use Rattle.packed.specs.declared.region.Region.{Region}
-use Rattle.packed.proofs.Cursors.{Cursor, name-at, size-at, offset_at, value-at, text-length, text-is}
+use Rattle.packed.proofs.Cursors.{Cursor, name-at, size-at, offset_at, value-at, text-length}
 use Rattle.packed.proofs.Decoded.{string_at}
-use Rattle.packed.proofs.Spots.{at-begin, at_mark, at-property, room-one, room_for, kind-is, no_property}
+use Rattle.packed.proofs.Spots.{at-begin, at_mark, at-property, room_for, kind-is, no_property}
 use Rattle.packed.proofs.Tokens.{size-one, size_join, names-one, size-ends}
 
 -- the tokens of nodes end with a finish token

@@ -1,13 +1,13 @@
 -- The names in a valid list of nodes have no zero byte. Assumes nothing.
-use Rattle.std.proofs.Common.{◌≡◌, ℕ, zero, suc, ◌+◌, ◌-◌, Bool, true, false, ◌&&◌, List, [], ◌∷◌, ◌++◌, Some, None, Option, sym, refl, ap, ◌∙◌, subst, arith}
+use Rattle.std.proofs.Common.{◌≡◌, ℕ, zero, suc, ◌+◌, ◌-◌, true, List, [], ◌∷◌, ◌++◌, Some, None, sym, ap, ◌∙◌, subst, arith}
 use Rattle.std.specs.List.{AllByRecursion}
 use Rattle.std.proofs.lemmas.Bool.{and_parts}
 use Rattle.names.specs.Names.{property_name}
 use Rattle.names.specs.Paths.{path_text}
 use Rattle.tree.specs.Places.{Bytes, Place}
 use Rattle.tree.specs.Trees.{Places, named_place, look}
-use Rattle.blob.specs.Tokens.{Tok, begin, property, end, nop, finish}
-use Rattle.tape.specs.Nodes.{Node, Property, shaped, fits, apart, spread, listed, step, path_of, tree_from, valid}
+use Rattle.blob.specs.Tokens.{begin, finish}
+use Rattle.tape.specs.Nodes.{Node, Property, fits, apart, spread, listed, step, path_of, valid}
 use Rattle.tape.proofs.Around.{root-parts}
 use Rattle.tape.proofs.Arranged.{seek, seek-here, seek-past, apart-head}
 use Rattle.tape.proofs.Finds.{fit_parts}

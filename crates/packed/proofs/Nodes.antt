@@ -1,12 +1,12 @@
 -- The tokens of nodes. Assumes nothing.
-use Rattle.std.proofs.Common.{◌≡◌, ℕ, zero, suc, ◌+◌, ◌-◌, ◌*◌, ◌<◌, ◌≤◌, true, List, [], ◌∷◌, ◌++◌, map, length, take, drop, replicate, sym, refl, ap, ◌∙◌, subst, append_assoc, append-nil, arith}
+use Rattle.std.proofs.Common.{◌≡◌, ℕ, zero, suc, ◌+◌, ◌-◌, ◌*◌, ◌≤◌, true, List, [], ◌∷◌, ◌++◌, length, sym, refl, ap, ◌∙◌, append_assoc, arith}
 use Rattle.tree.specs.Numbers.{pad4}
-use Rattle.blob.specs.Tokens.{Tok, begin, property, end, nop, finish}
+use Rattle.blob.specs.Tokens.{Tok, begin, finish}
 use Rattle.tape.specs.Nodes.{Node, Property, shaped, fits}
 use Rattle.tape.specs.Tapes.{properties_of, weight_of, properties_weight}
 use Rattle.tape.proofs.Around.{root-parts}
 use Rattle.tape.proofs.Finds.{fit_parts}
-use Rattle.packed.specs.Packing.{token_size, name_size, size_of, names_of, ends, property_tokens, tokens_of, front, open_after, leading, gathered}
+use Rattle.packed.specs.Packing.{size_of, names_of, ends, property_tokens, tokens_of, front, open_after, leading, gathered}
 use Rattle.packed.specs.Stands.{NodeLaws}
 use Rattle.packed.proofs.Tokens.{size_join, names_join, size-ends, names-ends, size-one, names-one}
 

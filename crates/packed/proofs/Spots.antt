@@ -1,20 +1,18 @@
 -- The tokens at a node's spot and at a property's mark. Assumes nothing.
-use Rattle.std.proofs.Common.{◌≡◌, ℕ, zero, suc, ◌+◌, ◌-◌, ◌*◌, ◌<◌, ◌≤◌, true, List, [], ◌∷◌, ◌++◌, map, length, get_or, take, drop, replicate, sym, refl, ap, ◌∙◌, subst, append_assoc, append-nil, add-zero, add_assoc, arith}
+use Rattle.std.proofs.Common.{◌≡◌, ℕ, zero, suc, ◌+◌, ◌-◌, ◌<◌, ◌≤◌, true, List, [], ◌∷◌, ◌++◌, length, take, drop, sym, ap, ◌∙◌, subst, append_assoc, append-nil, arith}
 use lib.ListN.{replicate-append-replicate}
 use Rattle.std.proofs.lemmas.List.{drop_more, take-append-drop, take_more, take_all, map-append}
-use Rattle.std.specs.List.{AllByRecursion}
 use Rattle.tree.specs.Numbers.{be32, pad4}
-use Rattle.blob.specs.Tokens.{Tok, begin, property, end, nop, finish}
+use Rattle.blob.specs.Tokens.{Tok, begin, property, end, finish}
 use Rattle.tape.specs.Nodes.{Node, Property, shaped, fits}
-use Rattle.tape.specs.Tapes.{nth, properties_at, property_of, nowhere, Here}
-use Rattle.tape.specs.declared.Spot.{Spot}
+use Rattle.tape.specs.Tapes.{nth, property_of, nowhere}
 use Rattle.tape.proofs.Around.{root-parts}
 use Rattle.tape.proofs.Finds.{fit_parts}
 use Rattle.tape.proofs.Sounds.{parts}
-use Rattle.packed.specs.Packing.{token_size, size_of, names_of, ends, property_tokens, tokens_of, front, open_after, spot_of, begin_of, first_of, mark_of}
+use Rattle.packed.specs.Packing.{token_size, size_of, ends, property_tokens, tokens_of, front, open_after, spot_of, begin_of, first_of, mark_of}
 use Rattle.packed.specs.Regions.{memory, nodes_of, Open}
 use Rattle.packed.specs.declared.region.Region.{Region}
-use Rattle.packed.proofs.Tokens.{size_join, size-one, size-ends}
+use Rattle.packed.proofs.Tokens.{size_join, size-one}
 use Rattle.packed.proofs.Nodes.{tokens_join, front_join, open_join}
 use Rattle.packed.proofs.Cursors.{Cursor, pass, at-start, kind_at, kind_of}
 

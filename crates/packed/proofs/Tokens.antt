@@ -1,7 +1,7 @@
 -- Tokens as bytes. Assumes nothing.
-use Rattle.std.proofs.Common.{◌≡◌, ℕ, zero, suc, ◌+◌, ◌-◌, ◌*◌, ◌<◌, ◌≤◌, List, [], ◌∷◌, ◌++◌, map, length, take, drop, replicate, sym, refl, ap, ◌∙◌, subst, append_assoc, append-nil, add-zero, add_assoc, arith, length-append}
+use Rattle.std.proofs.Common.{◌≡◌, ℕ, zero, suc, ◌+◌, ◌-◌, ◌*◌, List, [], ◌∷◌, ◌++◌, length, replicate, sym, refl, ap, ◌∙◌, append_assoc, add-zero, add_assoc, arith, length-append}
 use Rattle.std.proofs.lemmas.List.{length-replicate}
-use Rattle.tree.specs.Numbers.{be32, bytes32, pad4}
+use Rattle.tree.specs.Numbers.{pad4}
 use Rattle.tree.specs.Places.{Bytes}
 use Rattle.blob.specs.Tokens.{Tok, begin, property, end, nop, finish}
 use Rattle.packed.specs.Packing.{padded, token_bytes, token_size, name_bytes, name_size, structure, strings, size_of, names_of, ends}

@@ -1,6 +1,6 @@
 -- The blob of a list of nodes: header, an empty reservation block, the structure block, and the strings block with one string for each
 -- property, in the order of the properties. Assumes nothing.
-use Rattle.std.specs.Prelude.{ℕ, ◌+◌, ◌-◌, ◌*◌, List, [], ◌∷◌, ◌++◌, map, length, take, replicate}
+use Rattle.std.specs.Prelude.{ℕ, ◌+◌, ◌-◌, List, [], ◌∷◌, ◌++◌, map, length, take, replicate}
 use Rattle.tree.specs.Numbers.{bytes32, pad4}
 use Rattle.tree.specs.Places.{Bytes}
 use Rattle.blob.specs.Tokens.{Tok, begin, property, end, nop, finish}

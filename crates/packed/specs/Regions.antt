@@ -1,5 +1,5 @@
 -- The memory of the packed store, and the nodes that it holds. Assumes nothing.
-use Rattle.std.specs.Prelude.{◌≡◌, ℕ, ◌+◌, ◌^◌, ◌<◌, ◌≤◌, Bool, true, false, cond, ◌&&◌, List, [], ◌∷◌, ◌++◌, length, take, drop, Some, None, Option, ◌==◌, ◌≢◌, nat_le}
+use Rattle.std.specs.Prelude.{◌≡◌, ℕ, ◌+◌, ◌≤◌, Bool, true, cond, ◌&&◌, List, [], ◌∷◌, ◌++◌, length, take, drop, Some, None, ◌==◌, ◌≢◌, nat_le}
 use Rattle.std.specs.List.{AllByRecursion}
 use Rattle.std.specs.Str.{bytes_eq}
 use Rattle.tree.specs.Places.{Bytes}
@@ -7,8 +7,8 @@ use Rattle.blob.specs.Lexing.{Tokens, tokens_from}
 use Rattle.blob.specs.Tokens.{Tok, begin, property, end, nop, finish}
 use Rattle.blob.specs.declared.types.Layout.{Layout}
 use Rattle.tape.specs.Nodes.{Node, valid}
-use Rattle.tape.specs.Tapes.{nth, properties_of}
-use Rattle.packed.specs.Packing.{structure, strings, size_of, names_of, packed, tokens_of, gathered}
+use Rattle.tape.specs.Tapes.{properties_of}
+use Rattle.packed.specs.Packing.{structure, size_of, names_of, packed, tokens_of, gathered}
 use Rattle.packed.specs.declared.region.Region.{Region}
 
 -- the bytes lent

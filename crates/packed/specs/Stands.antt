@@ -1,5 +1,5 @@
 -- What holds of the blob of a list of nodes. Assumes nothing.
-use Rattle.std.specs.Prelude.{◌≡◌, ℕ, ◌+◌, ◌*◌, true, List, [], ◌∷◌, ◌++◌, length, take, drop}
+use Rattle.std.specs.Prelude.{◌≡◌, ℕ, ◌+◌, ◌*◌, true, List, ◌++◌, length}
 use Rattle.blob.specs.Tokens.{Tok}
 use Rattle.tape.specs.Nodes.{Node, shaped}
 use Rattle.tape.specs.Tapes.{properties_of, weight_of}

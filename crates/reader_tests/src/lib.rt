@@ -1,5 +1,6 @@
 // Tests of the reader, apart from its crate so that it is not proved twice.
 #![tactic(auto)]
+
 #[cfg(test)]
 mod build;
 #[cfg(test)]

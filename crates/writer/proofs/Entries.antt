@@ -1,12 +1,11 @@
 -- The tokens list the places, each in its turn. Assumes nothing.
-use Rattle.std.proofs.Common.{◌≡◌, ℕ, ◌+◌, List, [], ◌∷◌, ◌++◌, map, length, Some, None, Less, sym, refl, ap, ◌∙◌, subst}
-use Rattle.names.specs.Paths.{root, child, leaf, behind_last}
+use Rattle.std.proofs.Common.{◌≡◌, ℕ, ◌+◌, List, [], ◌∷◌, length, Some, refl, ap, ◌∙◌}
+use Rattle.names.specs.Paths.{root, leaf, behind_last}
 use Rattle.tree.specs.Entries.{Entry, inserted, listed}
 use Rattle.tree.specs.Maps.{upd, Below, Rises}
 use Rattle.tree.specs.Places.{Bytes, Place, node_at, property_at, order}
 use Rattle.tree.specs.Trees.{Places}
-use Rattle.blob.specs.Tokens.{Tok, begin, property, end, nop, finish}
-use Rattle.reader.specs.Format.{Spelt}
+use Rattle.blob.specs.Tokens.{begin, property}
 use Rattle.reader.specs.Reading.{entries, sound}
 use Rattle.reader.proofs.Complete.{somes}
 use Rattle.walk.specs.Runs.{Runs, run_end, run_root, run_property, run_node, run_leave}

@@ -1,38 +1,34 @@
 -- What is written is a blob of the tree. Assumes nothing.
-use Rattle.std.proofs.Common.{◌≡◌, ℕ, ◌+◌, ◌-◌, ◌*◌, ◌%◌, ◌^◌, ◌<◌, ◌≤◌, Bool, true, false, ◌&&◌, leb, List, [], ◌∷◌, ◌++◌, length, get_or, replicate, Some, None, Ok, sym, refl, ap, ◌∙◌, subst, append_assoc, arith, length-append}
-use Rattle.std.proofs.lemmas.List.{get_or-append-add, get_or_append_left, get_or-replicate, length-replicate}
+use Rattle.std.proofs.Common.{◌≡◌, ℕ, ◌+◌, ◌^◌, ◌<◌, ◌≤◌, true, false, leb, List, [], ◌∷◌, ◌++◌, length, replicate, Some, sym, refl, ap, ◌∙◌, subst, append_assoc, arith, length-append}
+use Rattle.std.proofs.lemmas.List.{get_or-append-add, get_or_append_left, get_or-replicate}
 use Rattle.std.proofs.lemmas.Bool.{and_parts, leb-true}
-use Rattle.names.specs.Names.{node_name}
 use Rattle.names.specs.Paths.{root, leaf, behind_last, stem}
-use Rattle.tree.specs.Entries.{Entry, tree_of, listed, inserted}
-use Rattle.tree.specs.Maps.{find, Below, Rises, total}
-use Rattle.tree.specs.Numbers.{be32, bytes32, pad4}
-use Rattle.tree.specs.Places.{Bytes, Place, node_at, property_at, order}
+use Rattle.tree.specs.Entries.{Entry, listed, inserted}
+use Rattle.tree.specs.Maps.{find, Rises, total}
+use Rattle.tree.specs.Numbers.{be32, bytes32}
+use Rattle.tree.specs.Places.{Bytes, Place, node_at, order}
 use Rattle.tree.specs.Trees.{Places, Tree, Sound, look, short_place, nodes, properties, weight}
 use Rattle.tree.proofs.Maps.{some-none, find-tail, head-found}
 use Rattle.tree.proofs.Places.{place-order}
 use Rattle.blob.specs.Grammar.{Header}
-use Rattle.blob.specs.Header.{total_size}
-use Rattle.blob.specs.Tokens.{Tok, begin, property, end, nop, finish}
 use Rattle.blob.specs.declared.types.Layout.{Layout}
-use Rattle.reader.specs.declared.counts.Counts.{Counts}
-use Rattle.reader.specs.Format.{Blob, Root, kept}
-use Rattle.reader.specs.Reading.{entries, sound, Exact}
+use Rattle.reader.specs.Format.{Blob, Root}
+use Rattle.reader.specs.Reading.{entries, sound}
 use Rattle.reader.specs.Verdict.{verdict, none, root_only, opened}
-use Rattle.reader.proofs.Accepted.{raw, kept-raw, Lexed, Whole, accepted-whole}
+use Rattle.reader.proofs.Accepted.{raw, kept-raw, Lexed, accepted-whole}
 use Rattle.reader.proofs.Complete.{somes}
 use Rattle.reader.proofs.Exact.{exact}
 use Rattle.walk.specs.Runs.{Runs, run_end, run_root, run_property, run_node, run_leave}
 use Rattle.walk.proofs.Runs.{tree-runs}
-use Rattle.writer.specs.Strings.{name_offset, with_name, strings}
-use Rattle.writer.specs.Written.{Piece, token_bytes, spelt, ends, pieces, structure_block, strings_block, header_bytes, written, Image, Images}
+use Rattle.writer.specs.Strings.{with_name, strings}
+use Rattle.writer.specs.Written.{Piece, spelt, ends, pieces, structure_block, strings_block, header_bytes, written, Image, Images}
 use Rattle.writer.proofs.Bytes.{be32-bytes}
-use Rattle.writer.proofs.Entries.{lists, places_list, insert_risen}
+use Rattle.writer.proofs.Entries.{places_list, insert_risen}
 use Rattle.writer.proofs.Lexes.{spell, Apts, lexes}
-use Rattle.walk.proofs.Full.{Full, full-property, full-node}
+use Rattle.walk.proofs.Full.{full-property, full-node}
 use Rattle.writer.proofs.Sizes.{both-size, pieces-node, pieces-leave}
 use Rattle.writer.proofs.Strings.{strings_laws, strings-longer, name-stands}
-use Rattle.writer.proofs.Verdicts.{Shorts, Room, Accepted, told, accept}
+use Rattle.writer.proofs.Verdicts.{Shorts, Room, Accepted, accept}
 
 -- what holds of all that is found holds of each place
 shorts-from : (es : Places) → Rises order es → ((k : Place) (v : Bytes) → find order es k ≡ Some v → short_place k v ≡ true) → Shorts es

@@ -1,10 +1,10 @@
 -- The tokens stand in the bytes that are written. Assumes nothing.
-use Rattle.std.proofs.Common.{◌≡◌, ℕ, ◌+◌, ◌-◌, ◌*◌, ◌^◌, ◌<◌, ◌≤◌, List, [], ◌∷◌, ◌++◌, length, take, drop, replicate, Some, None, sym, refl, ap, ◌∙◌, subst, append_assoc, append-nil, add-zero, add_assoc, arith, length-append}
-use Rattle.std.proofs.lemmas.List.{drop_at, take_at, take_all, drop-drop, length-drop}
+use Rattle.std.proofs.Common.{◌≡◌, ℕ, ◌+◌, ◌-◌, ◌^◌, ◌<◌, ◌≤◌, List, [], ◌∷◌, ◌++◌, length, take, drop, replicate, sym, refl, ap, ◌∙◌, subst, append_assoc, add_assoc, arith, length-append}
+use Rattle.std.proofs.lemmas.List.{drop_at, take_at, take_all, length-drop}
 use Rattle.std.specs.List.{between}
 use Rattle.tree.specs.Numbers.{be32, bytes32, pad4}
 use Rattle.tree.specs.Places.{Bytes}
-use Rattle.blob.specs.Grammar.{Text, Mark, Begins, Holds, IsToken}
+use Rattle.blob.specs.Grammar.{Text, IsToken}
 use Rattle.blob.specs.Tokens.{Tok, begin, property, end, nop, finish}
 use Rattle.blob.specs.declared.types.Layout.{Layout}
 use Rattle.reader.specs.Format.{Spelt}

@@ -1,17 +1,17 @@
 -- How long the blocks are. Assumes nothing.
-use Rattle.std.proofs.Common.{◌≡◌, ℕ, suc, ◌+◌, ◌-◌, ◌*◌, ◌/◌, ◌^◌, ◌<◌, ◌≤◌, Bool, true, false, cond, List, [], ◌∷◌, ◌++◌, length, Some, None, sym, refl, ap, ◌∙◌, subst, append_assoc, append-nil, arith, length-append}
+use Rattle.std.proofs.Common.{◌≡◌, ℕ, ◌+◌, ◌*◌, ◌≤◌, true, false, List, [], ◌∷◌, ◌++◌, length, refl, ap, arith, length-append}
 use Rattle.std.specs.Str.{bytes_eq}
 use Rattle.std.proofs.lemmas.Slice.Eq.{bytes_eq-Decides}
-use Rattle.std.proofs.lemmas.Bool.{cond-true, cond-false, cases_Bool, true≢false}
-use Rattle.names.specs.Paths.{root, leaf, parent, behind_last}
+use Rattle.std.proofs.lemmas.Bool.{cond-true, cond-false, cases_Bool}
+use Rattle.names.specs.Paths.{root, leaf, parent}
 use Rattle.tree.specs.Maps.{total}
-use Rattle.tree.specs.Numbers.{pad4, bytes32}
-use Rattle.tree.specs.Places.{Bytes, Place, node_at, property_at}
-use Rattle.tree.specs.Trees.{Places, node_count, property_count, weigh, nodes, properties, weight}
-use Rattle.blob.specs.Tokens.{Tok, begin, property, end, nop, finish}
+use Rattle.tree.specs.Numbers.{pad4}
+use Rattle.tree.specs.Places.{Bytes, node_at, property_at}
+use Rattle.tree.specs.Trees.{Places, nodes, properties, weight}
+use Rattle.blob.specs.Tokens.{Tok, begin, property, end}
 use Rattle.walk.specs.Runs.{Runs, run_end, run_root, run_property, run_node, run_leave}
 use Rattle.writer.specs.Strings.{name_offset, with_name, strings}
-use Rattle.writer.specs.Written.{Piece, padded, token_bytes, spelt, ends, opens, pieces_on, pieces}
+use Rattle.writer.specs.Written.{Piece, token_bytes, spelt, ends, pieces}
 use Rattle.writer.proofs.Bytes.{length-padded}
 use Rattle.writer.proofs.Strings.{strings_laws}
 

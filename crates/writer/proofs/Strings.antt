@@ -1,9 +1,9 @@
 -- The layout of the strings block keeps its laws. Assumes nothing.
-use Rattle.std.proofs.Common.{◌≡◌, ℕ, ◌+◌, ◌≤◌, List, [], ◌∷◌, ◌++◌, length, drop, Some, None, Option, sym, refl, ap, ◌∙◌, subst, append_assoc, append-nil, arith, length-append}
+use Rattle.std.proofs.Common.{◌≡◌, ◌≤◌, [], ◌∷◌, ◌++◌, length, drop, Some, None, sym, refl, ap, ◌∙◌, append_assoc, append-nil, arith, length-append}
 use Rattle.std.proofs.lemmas.List.{drop_at, drop-append-le}
-use Rattle.tree.specs.Places.{Bytes, Place}
+use Rattle.tree.specs.Places.{Bytes}
 use Rattle.tree.specs.Trees.{Places}
-use Rattle.writer.specs.Strings.{name_offset, with_name, with_place, strings, StringsLaws}
+use Rattle.writer.specs.Strings.{name_offset, with_name, strings, StringsLaws}
 
 pub strings_laws : StringsLaws
 unfolding name_offset with_name

@@ -1,25 +1,24 @@
 -- The reader accepts the tokens. Assumes nothing.
-use Rattle.std.proofs.Common.{◌≡◌, ℕ, ◌+◌, ◌*◌, ◌<◌, ◌≤◌, Bool, true, false, cond, not, ◌&&◌, ◌||◌, eqb, ltb, leb, ◌⊎◌, List, [], ◌∷◌, ◌++◌, length, Some, None, Ok, Err, Result, Less, Equal, sym, refl, ap, ◌∙◌, subst, inl, inr, ⊎_elim, true≢false, arith}
+use Rattle.std.proofs.Common.{◌≡◌, ℕ, ◌+◌, ◌<◌, ◌≤◌, Bool, true, false, eqb, leb, ◌⊎◌, List, [], ◌∷◌, ◌++◌, length, Some, None, Ok, Result, Less, sym, refl, ap, ◌∙◌, subst, inl, inr, ⊎_elim, true≢false, arith}
 use Rattle.std.proofs.lemmas.Bool.Decides.{nat_tests}
-use Rattle.std.proofs.lemmas.Bool.{cases_Bool, or_cases, and_parts, leb-true, ne_eqb}
+use Rattle.std.proofs.lemmas.Bool.{or_cases, and_parts, leb-true, ne_eqb}
 use Rattle.std.specs.Str.{bytes_eq}
 use Rattle.std.proofs.lemmas.Slice.Eq.{bytes_eq-Decides}
 use Rattle.names.specs.Names.{node_name, property_name}
 use Rattle.names.specs.Orders.{path_order}
-use Rattle.names.specs.Paths.{root, stem, child, leaf, behind_last}
+use Rattle.names.specs.Paths.{root, stem, child, leaf}
 use Rattle.names.proofs.NameLaws.{node_names}
 use Rattle.names.proofs.Orders.{child_after}
 use Rattle.names.proofs.PathLaws.{child_length}
 use Rattle.tree.specs.Maps.{Below, Rises, total}
-use Rattle.tree.specs.Numbers.{pad4}
 use Rattle.tree.specs.Places.{Bytes, Place, node_at, property_at, order}
-use Rattle.tree.specs.Trees.{Places, short_place, node_count, property_count, weigh, nodes, properties, weight}
+use Rattle.tree.specs.Trees.{Places, short_place, nodes, properties, weight}
 use Rattle.tree.proofs.Maps.{same}
 use Rattle.tree.proofs.Places.{place-order}
-use Rattle.blob.specs.Tokens.{Tok, begin, property, end, nop, finish}
+use Rattle.blob.specs.Tokens.{begin, property, end}
 use Rattle.blob.specs.declared.types.Refusal.{Refusal}
 use Rattle.reader.specs.declared.counts.Counts.{Counts}
-use Rattle.reader.specs.Verdict.{has, Open, opened, kids, with_node, with_property, node_fits, property_fits, none, root_only, verdict}
+use Rattle.reader.specs.Verdict.{has, Open, opened, kids, with_node, with_property, node_fits, property_fits, verdict}
 use Rattle.reader.proofs.Children.{stem-of}
 use Rattle.reader.proofs.Complete.{somes}
 use Rattle.reader.proofs.Distinct.{has_append}

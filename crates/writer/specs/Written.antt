@@ -1,5 +1,5 @@
 -- The blob of a tree: a header, an empty reservation block, the structure block, the strings block. Assumes nothing.
-use Rattle.std.specs.Prelude.{◌≡◌, ℕ, ◌+◌, ◌-◌, ◌*◌, ◌≤◌, true, cond, List, [], ◌∷◌, ◌++◌, length, replicate, Some, None, Ok}
+use Rattle.std.specs.Prelude.{◌≡◌, ℕ, ◌+◌, ◌-◌, ◌≤◌, true, cond, List, [], ◌∷◌, ◌++◌, length, replicate, Some, None, Ok}
 use Rattle.std.specs.Str.{bytes_eq}
 use Rattle.names.specs.Paths.{leaf, parent}
 use Rattle.tree.specs.Entries.{Entry, tree_of}

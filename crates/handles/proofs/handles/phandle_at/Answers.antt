@@ -1,4 +1,4 @@
-use Rattle.std.proofs.Common.{◌≡◌, Ok, sym, refl, ap, ◌∙◌, subst}
+use Rattle.std.proofs.Common.{Ok, sym, ap, ◌∙◌}
 use Rattle.handles.proofs.Values.{never-refused, absent, copy_never, present}
 use Rattle.handles.proofs.handles.phandle_at.Goals as goal
 

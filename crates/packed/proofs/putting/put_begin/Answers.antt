@@ -1,4 +1,4 @@
-use Rattle.std.proofs.Common.{◌≡◌, ℕ, ◌+◌, ◌-◌, [], ◌∷◌, ◌++◌, length, take, replicate, refl, ap, ◌∙◌, append_assoc, arith}
+use Rattle.std.proofs.Common.{◌≡◌, ℕ, ◌+◌, ◌-◌, ◌++◌, length, take, replicate, refl, ap, ◌∙◌, append_assoc, arith}
 use lib.ListN.{length-replicate}
 use Rattle.tree.specs.Numbers.{bytes32, pad4}
 use Rattle.packed.proofs.Grown.{grow, padding}

@@ -1,7 +1,6 @@
-use Rattle.std.proofs.Common.{◌≡◌, ℕ, ◌+◌, ◌-◌, [], ◌∷◌, ◌++◌, length, take, replicate, refl, ap, ◌∙◌, append_assoc, arith}
+use Rattle.std.proofs.Common.{◌≡◌, ℕ, ◌+◌, ◌-◌, ◌++◌, length, take, replicate, refl, ap, ◌∙◌, append_assoc, arith}
 use lib.ListN.{length-replicate}
 use Rattle.tree.specs.Numbers.{bytes32, pad4}
-use Rattle.packed.specs.Packing.{padded}
 use Rattle.packed.proofs.Grown.{grow}
 use Rattle.packed.proofs.putting.put_property.Goals as goal
 

@@ -1,7 +1,7 @@
-use Rattle.std.proofs.Common.{◌≡◌, ℕ, ◌+◌, ◌<◌, ◌≤◌, length, sym, refl, ap, ◌∙◌, subst, arith}
+use Rattle.std.proofs.Common.{◌≡◌, ◌+◌, ap, ◌∙◌, arith}
 use Rattle.tree.specs.Numbers.{be32, pad4}
 use Rattle.packed.specs.Packing.{mark_of}
-use Rattle.packed.specs.Regions.{nodes_of, Open}
+use Rattle.packed.specs.Regions.{nodes_of}
 use Rattle.tape.proofs.Sums.{within_limits}
 use Rattle.packed.proofs.Marks.{properties-within, property-room, size-here, mark-next}
 use Rattle.packed.proofs.reading.behind_of.Goals as goal

@@ -1,8 +1,8 @@
-use Rattle.std.proofs.Common.{◌≡◌, ℕ, ◌+◌, ◌*◌, ◌≤◌, true, length, sym, refl, ap, ◌∙◌, subst, arith}
-use Rattle.tape.specs.Tapes.{Counted, properties_of, weight_of}
+use Rattle.std.proofs.Common.{◌≡◌, ◌+◌, ◌*◌, ◌≤◌, length, sym, ap, arith}
+use Rattle.tape.specs.Tapes.{properties_of, weight_of}
 use Rattle.tape.proofs.Sounds.{parts}
 use Rattle.tape.proofs.Sums.{within_limits}
-use Rattle.packed.specs.Regions.{nodes_of, intact, Open}
+use Rattle.packed.specs.Regions.{nodes_of, Open}
 use Rattle.packed.specs.declared.region.Region.{Region}
 use Rattle.packed.proofs.Decoded.{opened_some, closed_none}
 use Rattle.packed.proofs.Nodes.{sizes}

@@ -1,9 +1,9 @@
-use Rattle.std.proofs.Common.{◌≡◌, ℕ, ◌+◌, ◌<◌, ◌≤◌, length, sym, refl, ap, ◌∙◌, subst, arith}
+use Rattle.std.proofs.Common.{◌≡◌, ℕ, ◌+◌, ◌<◌, length, sym, ap, ◌∙◌, arith}
 use Rattle.tree.specs.Numbers.{pad4}
 use Rattle.tape.specs.Tapes.{nth}
 use Rattle.tape.proofs.Sounds.{parts}
 use Rattle.tape.proofs.Sums.{within_limits}
-use Rattle.packed.specs.Packing.{spot_of, begin_of, first_of, mark_of, token_size}
+use Rattle.packed.specs.Packing.{begin_of, first_of, mark_of}
 use Rattle.packed.specs.Regions.{nodes_of, Open}
 use Rattle.packed.specs.declared.region.Region.{Region}
 use Rattle.packed.proofs.Marks.{name-room, first-mark}

@@ -1,4 +1,4 @@
-use Rattle.std.proofs.Common.{◌≡◌, ◌+◌, ap, ◌∙◌, arith}
+use Rattle.std.proofs.Common.{◌+◌, ap, ◌∙◌, arith}
 use Rattle.names.specs.Names.{before}
 use Rattle.std.specs.List.{between}
 use Rattle.packed.proofs.Marks.{name-room, name-long}

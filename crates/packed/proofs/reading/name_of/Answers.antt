@@ -1,4 +1,4 @@
-use Rattle.std.proofs.Common.{◌≡◌, ◌+◌, drop, sym, ap, ◌∙◌, arith, rules}
+use Rattle.std.proofs.Common.{◌+◌, drop, ap, ◌∙◌, arith, rules}
 use Rattle.packed.proofs.Cursors.{text-is}
 use Rattle.packed.proofs.Marks.{name-room, name-here}
 use Rattle.packed.proofs.reading.name_of.Goals as goal

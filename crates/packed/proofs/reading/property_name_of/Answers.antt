@@ -1,11 +1,11 @@
-use Rattle.std.proofs.Common.{◌≡◌, ℕ, ◌+◌, ◌-◌, ◌<◌, ◌≤◌, length, take, drop, sym, refl, ap, ◌∙◌, subst, arith, rules}
+use Rattle.std.proofs.Common.{◌+◌, ◌≤◌, length, drop, ap, ◌∙◌, arith, rules}
 use Rattle.names.specs.Names.{before}
 use Rattle.std.specs.List.{between}
 use Rattle.tree.specs.Numbers.{be32}
 use Rattle.tape.specs.Tapes.{property_of}
-use Rattle.packed.specs.Regions.{memory, nodes_of, Open}
+use Rattle.packed.specs.Regions.{nodes_of}
 use Rattle.packed.proofs.Cursors.{text-is}
-use Rattle.packed.proofs.Marks.{cursor, property-room, offset-here, string_here, string_long}
+use Rattle.packed.proofs.Marks.{property-room, offset-here, string_here, string_long}
 use Rattle.packed.proofs.reading.property_name_of.Goals as goal
 
 pub overflow_add-m : goal.overflow_add-m

@@ -1,8 +1,8 @@
-use Rattle.std.proofs.Common.{◌≡◌, ℕ, ◌+◌, ◌-◌, ◌*◌, ◌<◌, ◌≤◌, length, sym, refl, ap, ◌∙◌, subst, ⊎_elim, arith}
+use Rattle.std.proofs.Common.{◌≡◌, ℕ, ◌+◌, ◌<◌, ◌≤◌, length, sym, ap, ◌∙◌, subst, ⊎_elim, arith}
 use Rattle.std.proofs.lemmas.Bool.{cases_lt}
 use Rattle.tree.specs.Numbers.{be32, pad4}
 use Rattle.tape.specs.Tapes.{properties_at, property_of}
-use Rattle.packed.specs.Packing.{first_of, mark_of}
+use Rattle.packed.specs.Packing.{mark_of}
 use Rattle.packed.specs.Regions.{memory, nodes_of, Open}
 use Rattle.packed.specs.declared.region.Region.{Region}
 use Rattle.packed.proofs.Marks.{past_last, mark-room, mark-next, size-here, property-room, first-mark}

@@ -1,4 +1,4 @@
-use Rattle.std.proofs.Common.{◌≡◌, ℕ, ◌+◌, ◌-◌, ◌<◌, ◌≤◌, length}
+use Rattle.std.proofs.Common.{◌≡◌, ℕ, ◌-◌, ◌<◌, ◌≤◌, length}
 use Rattle.tape.specs.Tapes.{properties_at}
 use Rattle.packed.specs.Packing.{first_of, mark_of}
 use Rattle.packed.specs.Regions.{nodes_of}

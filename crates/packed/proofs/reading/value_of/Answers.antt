@@ -1,9 +1,6 @@
-use Rattle.std.proofs.Common.{◌≡◌, ℕ, ◌+◌, ◌-◌, ◌<◌, ◌≤◌, length, take, drop, sym, refl, ap, ◌∙◌, subst, arith, rules}
+use Rattle.std.proofs.Common.{◌+◌, ◌≤◌, length, ap, ◌∙◌, arith, rules}
 use Rattle.std.specs.List.{between}
-use Rattle.tree.specs.Numbers.{be32, pad4}
-use Rattle.tape.specs.Tapes.{property_of}
-use Rattle.packed.specs.Packing.{mark_of}
-use Rattle.packed.specs.Regions.{nodes_of, Open}
+use Rattle.tree.specs.Numbers.{be32}
 use Rattle.packed.proofs.Marks.{property-room, size-here, value-here}
 use Rattle.packed.proofs.reading.value_of.Goals as goal
 
