@@ -1,4 +1,4 @@
--- `tokenAt` finds what is a token, and nothing else. Assumes nothing.
+-- `token_at` finds what is a token, and nothing else. Assumes nothing.
 use Rattle.std.proofs.Common.{◌≡◌, ℕ, suc, ◌+◌, ◌<◌, ◌≤◌, Bool, true, false, eqb, List, [], ◌∷◌, ◌++◌, length, take, Some, None, Option, sym, refl, ap, ◌∙◌, subst, arith, length-append, take_at, lt-ltb, ne_eqb, eqb-true}
 use borrow.Author.Tests.{clash, eqb-false}
 use Rattle.std.proofs.lemmas.Bool.Decides.{nat_tests}

@@ -1,4 +1,4 @@
--- What a header and a token are, in words of the format; `header` and `tokenAt` find them. Assumes nothing.
+-- What a header and a token are, in words of the format; `header` and `token_at` find them. Assumes nothing.
 use Rattle.std.specs.Prelude.{◌≡◌, ℕ, ◌+◌, ◌%◌, ◌<◌, ◌≤◌, List, ◌∷◌, ◌++◌, length, Some, Ok, Result, ◌≢◌, slice_index}
 use Rattle.std.specs.List.{between, AllByRecursion}
 use Rattle.tree.specs.Numbers.{be32, pad4}

@@ -37,8 +37,8 @@ abbrev pub symbol : Bytes → Bytes → List Entry
 symbol l v = fragment (to_path (codes "/")) (node 48 (codes "/__symbols__") ∷ property 56 (codes "/__symbols__") l v ∷ [])
 
 -- two labels with a cell each in one value of eight bytes
-abbrev pub two-fixups : Bytes → Bytes → List Entry
-two-fixups a b =
+abbrev pub two_fixups : Bytes → Bytes → List Entry
+two_fixups a b =
     fragment (to_path (codes "/"))
     (on_body 32 (codes "ref") (replicate 8 0) ∷ node 48 (codes "/__fixups__") ∷ fixup 56 (codes "a") (codes "/f/__overlay__:ref:" ++ a) ∷ fixup 60 (codes "b") (codes "/f/__overlay__:ref:" ++ b) ∷ [])
 
@@ -77,9 +77,9 @@ pub record CheckExamples : Type 0 where
   pub past : check (raised (bytes32 1) (bytes32 1)) ≡ Some (23, 60)
   pub odd : check (raised (bytes32 1) (0 ∷ 0 ∷ [])) ≡ Some (23, 60)
   pub twice : check (raised (bytes32 1) (bytes32 0 ++ bytes32 0)) ≡ Some (23, 60)
-  pub side_by_side : check (two-fixups (codes "0") (codes "4")) ≡ None
-  pub shared : check (two-fixups (codes "0") (codes "3")) ≡ Some (23, 60)
-  pub shared_lower : check (two-fixups (codes "4") (codes "1")) ≡ Some (23, 60)
+  pub side_by_side : check (two_fixups (codes "0") (codes "4")) ≡ None
+  pub shared : check (two_fixups (codes "0") (codes "3")) ≡ Some (23, 60)
+  pub shared_lower : check (two_fixups (codes "4") (codes "1")) ≡ Some (23, 60)
   pub no_body : check (fragment (to_path (codes "/")) (node 48 (codes "/__local_fixups__") ∷ property 52 (codes "/__local_fixups__") (codes "ref") [] ∷ [])) ≡ Some (23, 52)
   -- 24: no path of a body node, no zero byte, a label `phandle`
   pub names_body : check (symbol (codes "top") (text (codes "/f/__overlay__"))) ≡ None
