@@ -2,7 +2,6 @@
 use crate::build::{Part, verdict_of};
 use Part::{Begin, End, Finish, Number, Property, PropertyAt, Skipped as Skip, Text};
 use std::alloc::Global;
-use std::process::Abort;
 use std::test::Fail;
 
 const ROOT: Part<'static> = Begin(b"");
@@ -28,14 +27,11 @@ fn skipped_tokens(rt: HostRuntime) -> Result<(), Fail> {
 }
 
 // These parts make a blob that is so refused.
-fn refused(
-    rt: &impl Abort,
-    heap: Global,
-    parts: &[Part],
-    number: u32,
-    place: usize,
-) -> Result<(), Fail> {
-    assert_eq!(rt; verdict_of(heap, parts)?, (number, place));
+fn refused(heap: Global, parts: &[Part], number: u32, place: usize) -> Result<(), Fail> {
+    let found = verdict_of(heap, parts)?;
+    if found != (number, place) {
+        return Err(Fail::new(format_args!("{found:?} for ({number}, {place})")));
+    }
     Ok(())
 }
 
@@ -43,11 +39,11 @@ fn refused(
 #[test]
 fn roots(rt: HostRuntime) -> Result<(), Fail> {
     let heap = rt.alloc();
-    refused(&rt, heap, &[], 13, 56)?;
-    refused(&rt, heap, &[Finish], 13, 56)?;
-    refused(&rt, heap, &[ROOT, End], 13, 68)?;
-    refused(&rt, heap, &[ROOT, End, ROOT, End, Finish], 13, 68)?;
-    refused(&rt, heap, &[Begin(b"r"), End, Finish], 14, 56)
+    refused(heap, &[], 13, 56)?;
+    refused(heap, &[Finish], 13, 56)?;
+    refused(heap, &[ROOT, End], 13, 68)?;
+    refused(heap, &[ROOT, End, ROOT, End, Finish], 13, 68)?;
+    refused(heap, &[Begin(b"r"), End, Finish], 14, 56)
 }
 
 // A property behind a node, one outside, an end too many, the end of the block in the root, and too early.
@@ -55,11 +51,11 @@ fn roots(rt: HostRuntime) -> Result<(), Fail> {
 fn out_of_place(rt: HostRuntime) -> Result<(), Fail> {
     let heap = rt.alloc();
     let p = Property(b"p", b"");
-    refused(&rt, heap, &[ROOT, Begin(b"a"), End, p, End, Finish], 13, 76)?;
-    refused(&rt, heap, &[p], 13, 56)?;
-    refused(&rt, heap, &[ROOT, End, End, Finish], 13, 68)?;
-    refused(&rt, heap, &[ROOT, Finish], 13, 64)?;
-    refused(&rt, heap, &[ROOT, End, Finish, Finish], 13, 68)
+    refused(heap, &[ROOT, Begin(b"a"), End, p, End, Finish], 13, 76)?;
+    refused(heap, &[p], 13, 56)?;
+    refused(heap, &[ROOT, End, End, Finish], 13, 68)?;
+    refused(heap, &[ROOT, Finish], 13, 64)?;
+    refused(heap, &[ROOT, End, Finish, Finish], 13, 68)
 }
 
 #[test]
@@ -77,7 +73,7 @@ fn unknown_tokens(rt: HostRuntime) -> Result<(), Fail> {
 #[test]
 fn cut_tokens(rt: HostRuntime) -> Result<(), Fail> {
     let heap = rt.alloc();
-    refused(&rt, heap, &[ROOT, Number(1), Number(0x6162_6364)], 13, 64)?;
+    refused(heap, &[ROOT, Number(1), Number(0x6162_6364)], 13, 64)?;
     let long = [
         ROOT,
         Number(3),
@@ -85,8 +81,8 @@ fn cut_tokens(rt: HostRuntime) -> Result<(), Fail> {
         Number(0),
         Text(b"p\0"),
     ];
-    refused(&rt, heap, &long, 13, 64)?;
-    refused(&rt, heap, &[ROOT, Number(3), Number(0)], 13, 64)
+    refused(heap, &long, 13, 64)?;
+    refused(heap, &[ROOT, Number(3), Number(0)], 13, 64)
 }
 
 #[test]
@@ -103,7 +99,7 @@ fn strings_block(rt: HostRuntime) -> Result<(), Fail> {
     assert_eq!(rt; verdict_of(heap, &shared)?, (0, 1), "a name inside another");
     for offset in [5, 6, 7, 8, 0xffff_ffff] {
         let parts = [Text(b"name\0ab"), ROOT, PropertyAt(offset), End, Finish];
-        refused(&rt, heap, &parts, 13, 64)?;
+        refused(heap, &parts, 13, 64)?;
     }
     Ok(())
 }
@@ -119,7 +115,7 @@ fn bad_names(rt: HostRuntime) -> Result<(), Fail> {
         b"a-name-of-thirty-two-bytes-in-all",
     ];
     for name in names {
-        refused(&rt, rt.alloc(), &[ROOT, Begin(name)], 14, 64)?;
+        refused(rt.alloc(), &[ROOT, Begin(name)], 14, 64)?;
         assert_eq!(rt;
             verdict_of(rt.alloc(), &[ROOT, Property(name, b"")])?,
             (14, 64)
@@ -135,6 +131,6 @@ fn names_used_twice(rt: HostRuntime) -> Result<(), Fail> {
     let good = [ROOT, a, Begin(b"a"), a, End, End, Finish];
     assert_eq!(rt; verdict_of(heap, &good)?, (0, 2));
     let nodes = [ROOT, Begin(b"a"), End, Begin(b"b"), End, Begin(b"a")];
-    refused(&rt, heap, &nodes, 14, 88)?;
-    refused(&rt, heap, &[ROOT, a, a], 14, 76)
+    refused(heap, &nodes, 14, 88)?;
+    refused(heap, &[ROOT, a, a], 14, 76)
 }
