@@ -13,6 +13,13 @@ loop-m-init g c =
 pub returns-in_err-m : goal.returns-in_err-m
 returns-in_err-m g c = absurd (turn_refused (g.R.Readable.meaning c.args.tree.now) c.args.path.now c.loop-m.path c.loop-m.after c.args.at c.loop-m.len c.loop-m.n (g.R.Readable.good c.args.tree.now) c.requires.there c.requires.room c.loop-m.invariant.3 c.loop-m.invariant.2 c.loop-m.invariant.4 c.next_child.result c.next_child.ensures.answer c.in_err-m.field-0.0 c.in_err-m.was)
 
+pub slice_bounds-join-end : goal.slice_bounds-join-end
+slice_bounds-join-end g c =
+    let j = turn_some (g.R.Readable.meaning c.args.tree.now) c.args.path.now c.loop-m.path c.loop-m.after c.args.at c.loop-m.len c.loop-m.n (g.R.Readable.good c.args.tree.now) c.requires.there c.requires.room c.loop-m.invariant.3 c.loop-m.invariant.2 c.loop-m.invariant.4 c.next_child.result c.next_child.ensures.answer c.in-Some.m _ c.next_child.new.out (c.in_ok-m.was ∙ ap Ok c.in-Some.is) c.next_child.ensures.buffer in
+    let s = j.short in
+    let k = c.next_child.auto.out in
+    omega arith
+
 pub join-requires : goal.join-requires
 join-requires g c =
     let j = turn_some (g.R.Readable.meaning c.args.tree.now) c.args.path.now c.loop-m.path c.loop-m.after c.args.at c.loop-m.len c.loop-m.n (g.R.Readable.good c.args.tree.now) c.requires.there c.requires.room c.loop-m.invariant.3 c.loop-m.invariant.2 c.loop-m.invariant.4 c.next_child.result c.next_child.ensures.answer c.in-Some.m _ c.next_child.new.out (c.in_ok-m.was ∙ ap Ok c.in-Some.is) c.next_child.ensures.buffer in
