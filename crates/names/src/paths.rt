@@ -10,7 +10,7 @@ use crate::names::{find, is_node_name};
 use std::cmp::Ordering;
 
 // What stands before each name of a path.
-const SLASH: u8 = b'/';
+pub const SLASH: u8 = b'/';
 
 // The laws of names, paths and their order hold.
 pub fn path_laws_stand() -> u8

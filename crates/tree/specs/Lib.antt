@@ -1,3 +1,4 @@
+pub mod Counting
 pub mod Entries
 pub mod EntryLaws
 pub mod MapLaws
