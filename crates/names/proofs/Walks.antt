@@ -11,7 +11,7 @@ use Rattle.names.specs.Orders.{path_order, rank}
 use Rattle.names.specs.Paths.{root, parts, path_text, plain, behind_last, leaf, parent}
 use Rattle.names.proofs.Orders.{below, above, level, rank-one}
 use Rattle.names.proofs.PathLaws.{behind-plain, behind-last, and_true, names-one, names_join, text-names}
-use Rattle.names.proofs.Words.{before-within}
+use Rattle.names.proofs.Words.{each-all}
 use Rattle.std.specs.Ordering as std-orderings
 
 -- ---- to the last slash
@@ -90,10 +90,6 @@ parts-onto cur (b ∷ s) = go (parts-onto [] s) (parts-onto (cur ++ (b ∷ [])) 
 
 pub parts-split : (s : List ℕ) → slice_split (λ b. eqb b 47) s ≡ parts [] s
 parts-split s = sym (parts-onto [] s ∙ onto-split (λ b. eqb b 47) s)
-
-pub each-all : {A : Type 0} (p : A → Bool) (xs : List A) → list_all p xs ≡ each p xs
-each-all p [] = refl
-each-all p (x ∷ xs) = ap (λ v. p x && v) (each-all p xs)
 
 -- ---- the text of a path, by its first byte and its length
 

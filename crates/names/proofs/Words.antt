@@ -1,6 +1,6 @@
 -- Words of names: the loops that look for a byte or for the end of a run, and a node name by its first run. Assumes nothing.
 use Rattle.std.proofs.Common.{◌≡◌, ℕ, suc, ◌+◌, ◌-◌, ◌<◌, ◌≤◌, Bool, true, false, cond, not, ◌&&◌, ◌==◌, eqb, leb, List, [], ◌∷◌, length, get_or, take, drop, sym, refl, ap, ◌∙◌, ⊎_elim, add-one, one-add, arith}
-use Rattle.std.specs.List.{position, position_or_len, prefix_len}
+use Rattle.std.specs.List.{list_all, position, position_or_len, prefix_len}
 use Rattle.std.specs.Option.{unwrap_or}
 use Rattle.std.proofs.lemmas.List.{at_drop_more, at_drop_all, length-take-le, take_all, take_rest}
 use Rattle.std.proofs.lemmas.List.Sums.{prefix_len-le-length}
@@ -12,16 +12,20 @@ pub before-within : (b : ℕ) (s : List ℕ) → before b s ≤ length s
 before-within b [] = omega arith
 before-within b (x ∷ s) = let h = before-within b s in grind (arith, nat_tests)
 
+pub each-all : {A : Type 0} (p : A → Bool) (xs : List A) → list_all p xs ≡ each p xs
+each-all p [] = refl
+each-all p (x ∷ xs) = ap (λ v. p x && v) (each-all p xs)
+
 -- the first place that passes, or the length where none does
 unless_first : {X : Type 0} (p : X → Bool) (s : List X) → unwrap_or (position p s) (length s) ≡ position_or_len p s
 unless_first p s = grind (arith, nat_tests, prefix_len-le-length (λ x. not (p x)) s)
 
+pub before-first : (b : ℕ) (s : List ℕ) → position_or_len (λ x. x == b) s ≡ before b s
+before-first b [] = refl
+before-first b (x ∷ s) = let h = before-first b s in grind (arith, nat_tests)
+
 pub before-position : (b : ℕ) (s : List ℕ) → unwrap_or (position (λ x. x == b) s) (length s) ≡ before b s
-before-position b s = unless_first (λ x. x == b) s ∙ go s
-  where
-    go : (s : List ℕ) → position_or_len (λ x. x == b) s ≡ before b s
-    go [] = refl
-    go (x ∷ s) = let h = go s in grind (arith, nat_tests)
+before-position b s = unless_first (λ x. x == b) s ∙ before-first b s
 
 pub run-position : (p : ℕ → Bool) (s : List ℕ) → unwrap_or (position (λ x. not (p x)) s) (length s) ≡ prefix_len p s
 run-position p s = unless_first (λ x. not (p x)) s ∙ go s

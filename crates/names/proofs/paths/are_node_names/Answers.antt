@@ -3,7 +3,8 @@ use Rattle.std.proofs.lemmas.Iterator.Search.{all_from_yields_List}
 use Rattle.std.proofs.lemmas.Iterator.Splits.{YieldsList-from_slice_split}
 use borrow.Author.Tests.{tests}
 use Rattle.names.specs.Names.{each, node_name}
-use Rattle.names.proofs.Walks.{each-all, parts-split}
+use Rattle.names.proofs.Walks.{parts-split}
+use Rattle.names.proofs.Words.{each-all}
 use Rattle.names.proofs.paths.are_node_names.Goals as goal
 
 pub returns : goal.returns
