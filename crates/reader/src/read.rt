@@ -1,14 +1,13 @@
 // Nodes and their bodies.
-ghost use Rattle.std.specs.Prelude.{◌≡◌, ℕ, ◌+◌, ◌≤◌, Bool, true, false, List, [], ◌∷◌, ◌++◌, IfOk, Some, Ok};
+ghost use Rattle.std.specs.Prelude.{◌≡◌, ℕ, ◌+◌, ◌≤◌, true, false, List, [], ◌∷◌, ◌++◌, IfOk, Some};
 ghost use Rattle.std.specs.List.{between};
-ghost use Rattle.tree.specs.Entries.{tree_of, well_listed};
+ghost use Rattle.tree.specs.Entries.{tree_of};
 ghost use Rattle.tree.specs.Places.{Bytes};
 ghost use Rattle.tree.specs.Trees.{Sound};
-ghost use Rattle.blob.specs.Header.{header};
 ghost use Rattle.blob.specs.Tokens.{begin, property, token_at};
 ghost use Rattle.reader.specs.Passing.{Bounded, Named, Restored, from, Passed, Noted};
-ghost use Rattle.reader.specs.Handing.{named_tokens, until};
-ghost use Rattle.reader.specs.Reading.{entries_of, tokens_of, reading, read_of, Tally, Exact};
+ghost use Rattle.reader.specs.Read.{read_of};
+ghost use Rattle.reader.specs.Reading.{entries_of, reading, Exact};
 ghost use Rattle.reader.specs.Seen.{Spells};
 ghost use Rattle.reader.specs.Verdict.{opened, kids, none};
 
@@ -183,20 +182,12 @@ fn read_tree(blob: &Blob) -> Result<Counts, Refusal>
 // Reads a blob: where it is one within the limits, its tokens can be had; else the refusal says why not, and where.
 pub fn read(bytes: &[u8]) -> Result<Flat<'_>, Refusal>
     ensures value { read_of result ≡ reading bytes.now }
-    ensures bytes { IfOk result (λ f. f.bytes.now ≡ bytes.now) }
-    ensures layout { IfOk result (λ f. header bytes.now ≡ Ok f.layout) }
-    ensures counts { IfOk result (λ f. Tally f.counts (entries_of bytes.now f.layout)) }
-    ensures listed { IfOk result (λ f. well_listed (entries_of bytes.now f.layout) ≡ true) }
-    ensures named { IfOk result (λ f. named_tokens (until (tokens_of bytes.now f.layout)) ≡ true) }
-    ensures tree { IfOk result (λ f. Sound (tree_of f.layout.boot (entries_of bytes.now f.layout))) }
+    ensures bytes { IfOk result (λ f. f.blob.bytes.now ≡ bytes.now) }
+    ensures tree { IfOk result (λ f. Sound (tree_of f.blob.layout.boot (entries_of bytes.now f.blob.layout))) }
     ensures exact { Exact bytes.now }
 {
     let layout = check_header(bytes)?;
     let blob = Blob { bytes, layout };
     let counts = read_tree(&blob)?;
-    Ok(Flat {
-        bytes,
-        layout,
-        counts,
-    })
+    Ok(Flat { blob, counts })
 }
