@@ -5,9 +5,9 @@ ghost use Rattle.blob.specs.Header.{header};
 ghost use Rattle.reader.specs.Handing.{named_tokens, until, ahead, Starts};
 ghost use Rattle.reader.specs.Reading.{entries_of, tokens_of, Tally};
 
-use crate::counts::Counts;
 use crate::cursor::Tokens;
 use blob::blob::Blob;
+use tree::counts::Counts;
 
 // A blob within the limits, and how much it holds. `read` makes one.
 #[derive(Clone, Copy)]

@@ -1,6 +1,7 @@
 // Nodes and their bodies.
 ghost use Rattle.std.specs.Prelude.{◌≡◌, ℕ, ◌+◌, ◌≤◌, true, false, List, [], ◌∷◌, ◌++◌, IfOk, Some};
 ghost use Rattle.std.specs.List.{between};
+ghost use Rattle.tree.specs.Counting.{zero};
 ghost use Rattle.tree.specs.Entries.{tree_of};
 ghost use Rattle.tree.specs.Places.{Bytes};
 ghost use Rattle.tree.specs.Trees.{Sound};
@@ -9,9 +10,8 @@ ghost use Rattle.reader.specs.Passing.{Bounded, Named, Restored, from, Passed, N
 ghost use Rattle.reader.specs.Read.{read_of};
 ghost use Rattle.reader.specs.Reading.{entries_of, reading, Exact};
 ghost use Rattle.reader.specs.Seen.{Spells};
-ghost use Rattle.reader.specs.Verdict.{opened, kids, none};
+ghost use Rattle.reader.specs.Verdict.{opened, kids};
 
-use crate::counts::Counts;
 use crate::flat::Flat;
 use crate::seen::{CAPACITY, Seen};
 use blob::blob::Blob;
@@ -19,6 +19,7 @@ use blob::header::check_header;
 use blob::numbers::be32_at;
 use blob::types::{Refusal, Token};
 use names::names::{is_node_name, is_property_name};
+use tree::counts::Counts;
 
 // An open node: where its names begin in the table, the length of its path (0 for the root), whether a child has come.
 #[derive(Clone, Copy)]
@@ -46,9 +47,9 @@ fn read_property(
     if !is_property_name(name) || seen.has(blob.bytes, base, name) {
         return Err(Refusal::Name(at));
     }
-    if !counts.add_property(name, value) {
-        return Err(Refusal::Limit(at));
-    }
+    *counts = counts
+        .adding_property(name.len(), value.len())
+        .ok_or(Refusal::Limit(at))?;
     seen.push(blob.layout.strings + be32_at(blob.bytes, at + 8) as usize);
     Ok(())
 }
@@ -75,11 +76,12 @@ fn read_node(
     if !is_node_name(name) || seen.has(blob.bytes, frame.base, name) {
         return Err(Refusal::Name(at));
     }
-    if !counts.add_node(frame.path, name) {
-        return Err(Refusal::Limit(at));
-    }
+    let path = frame.path + 1 + name.len();
+    *counts = counts
+        .adding_node(path, name.len())
+        .ok_or(Refusal::Limit(at))?;
     seen.push(at + 4);
-    read_body(blob, next, frame.path + 1 + name.len(), seen, counts)
+    read_body(blob, next, path, seen, counts)
 }
 
 // The body from `start` of a node whose path has `path` bytes; answers where the token behind its end stands.
@@ -134,18 +136,14 @@ fn read_body(
 
 // The root, with nothing but skipped tokens around it, and the end of the block.
 fn read_tree(blob: &Blob) -> Result<Counts, Refusal>
-    ensures { result ≡ from blob.now.bytes.now blob.now.layout [] none blob.now.layout.start }
+    ensures { result ≡ from blob.now.bytes.now blob.now.layout [] zero blob.now.layout.start }
 {
     let mut p = blob.layout.start;
     let mut seen = Seen {
         at: [0; CAPACITY],
         used: 0,
     };
-    let mut counts = Counts {
-        nodes: 0,
-        properties: 0,
-        weight: 0,
-    };
+    let mut counts = Counts::zero();
     loop {
         let Some(step) = blob.token_at(p) else {
             return Err(Refusal::Token(p));
@@ -158,11 +156,7 @@ fn read_tree(blob: &Blob) -> Result<Counts, Refusal>
                 if name.len() != 0 {
                     return Err(Refusal::Name(p));
                 }
-                counts = Counts {
-                    nodes: 1,
-                    properties: 0,
-                    weight: 4,
-                };
+                counts = Counts::zero().with_node(0);
                 p = read_body(blob, step.next, 0, &mut seen, &mut counts)?;
             }
             Token::Finish => {
