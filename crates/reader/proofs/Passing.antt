@@ -1,5 +1,6 @@
 -- One token of the reading, and what a child's body leaves. Assumes nothing.
-use Rattle.std.proofs.Common.{◌≡◌, ℕ, ◌+◌, ◌-◌, ◌≤◌, Bool, true, false, cond, List, [], ◌∷◌, ◌++◌, length, take, drop, Some, None, Ok, Err, Result, sym, ap, ◌∙◌, arith}
+use Rattle.std.proofs.Common.{◌≡◌, ℕ, ◌+◌, ◌-◌, ◌≤◌, Bool, true, false, cond, List, [], ◌∷◌, ◌++◌, length, take, drop, Some, None, Ok, Err, Result, refl, sym, ap, ◌∙◌, arith}
+use Rattle.std.specs.Option.{ok_or}
 use Rattle.std.specs.List.{between}
 use Rattle.std.proofs.lemmas.List.{take-take}
 use Rattle.std.proofs.lemmas.Slice.{between_is}
@@ -10,11 +11,12 @@ use Rattle.blob.specs.declared.types.Layout.{Layout}
 use Rattle.blob.specs.declared.types.Refusal.{Refusal}
 use Rattle.blob.specs.declared.types.Refusal.TheVariants.{Token, Name, Limit}
 use Rattle.blob.proofs.Lexed.{tokens_none, tokens-some}
-use Rattle.reader.specs.declared.counts.Counts.{Counts}
+use Rattle.tree.specs.declared.counts.Counts.{Counts}
 use Rattle.reader.specs.declared.seen.Seen.{Seen}
 use Rattle.reader.specs.Passing.{Named, Restored, from, Passed}
 use Rattle.reader.specs.Seen.{Spells}
-use Rattle.reader.specs.Verdict.{has, Open, opened, kids, with_node, node_fits, next, follow, verdict}
+use Rattle.tree.specs.Counting.{with_node, node_fits}
+use Rattle.reader.specs.Verdict.{has, Open, opened, kids, next, follow, verdict}
 
 module _ (bs : Bytes) (l : Layout) (p : ℕ) (gs : List Open) (c : Counts) where
   pub verdict-none : token_at bs l p ≡ None → from bs l gs c p ≡ Err (Token p)
@@ -33,12 +35,21 @@ module _ (bs : Bytes) (l : Layout) (at n : ℕ) (g : Open) (gs : List Open) (c :
   pub node-used : node_name name ≡ true → has name (kids g) ≡ true → from bs l (g ∷ gs) c at ≡ Err (Name at)
   node-used good used = verdict-some bs l at (g ∷ gs) c (begin name) n token ∙ rw (good, used)
 
-  pub node_over : node_name name ≡ true → has name (kids g) ≡ false → node_fits c g.path name ≡ false → from bs l (g ∷ gs) c at ≡ Err (Limit at)
+  pub node_over : node_name name ≡ true → has name (kids g) ≡ false → node_fits c (g.path + 1 + length name) (length name) ≡ false → from bs l (g ∷ gs) c at ≡ Err (Limit at)
   node_over good new over = verdict-some bs l at (g ∷ gs) c (begin name) n token ∙ rw (good, new, over)
 
-  pub node-entered : node_name name ≡ true → has name (kids g) ≡ false → node_fits c g.path name ≡ true
-      → from bs l (g ∷ gs) c at ≡ from bs l (opened (g.path + 1 + length name) false [] ∷ opened g.path true (kids g ++ (name ∷ [])) ∷ gs) (with_node c name) n
+  pub node-entered : node_name name ≡ true → has name (kids g) ≡ false → node_fits c (g.path + 1 + length name) (length name) ≡ true
+      → from bs l (g ∷ gs) c at ≡ from bs l (opened (g.path + 1 + length name) false [] ∷ opened g.path true (kids g ++ (name ∷ [])) ∷ gs) (with_node c (length name)) n
   node-entered good new room = verdict-some bs l at (g ∷ gs) c (begin name) n token ∙ rw (good, new, room)
+
+-- what is counted within the limits, or its refusal
+pub counted : (fits : Bool) (c d : Counts) (e : Refusal) → Ok d ≡ ok_or (cond fits (Some c) None) e → (fits ≡ true) × (d ≡ c)
+counted true c d e h = (refl, cc)
+counted false c d e h = absurd (let z : ◌≡◌ {A = ℕ} 0 1 = cc in omega arith)
+
+pub uncounted : (fits : Bool) (c : Counts) (e f : Refusal) → Err f ≡ ok_or (cond fits (Some c) None) e → (fits ≡ false) × (f ≡ e)
+uncounted true c e f h = absurd (let z : ◌≡◌ {A = ℕ} 0 1 = cc in omega arith)
+uncounted false c e f h = (refl, cc)
 
 -- the names of the children alone
 pub kin-named : (bs : Bytes) (base path : ℕ) (children : Bool) (ns : List Bytes) (was is : Seen) → base ≤ was.used → is.at ≡ was.at → is.used ≡ cond children was.used base

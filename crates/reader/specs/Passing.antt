@@ -1,15 +1,16 @@
 -- What the inner functions of the reader do to the rest of the reading, to the counts and to the table of names.
 -- Assumes nothing.
-use Rattle.std.specs.Prelude.{◌≡◌, ℕ, ◌+◌, ◌≤◌, List, [], ◌∷◌, ◌++◌, take, Some, None, Ok, Err, Result}
+use Rattle.std.specs.Prelude.{◌≡◌, ℕ, ◌+◌, ◌≤◌, List, [], ◌∷◌, ◌++◌, length, take, Some, None, Ok, Err, Result}
 use Rattle.std.specs.List.{between}
 use Rattle.tree.specs.Places.{Bytes}
 use Rattle.blob.specs.Lexing.{tokens_from}
 use Rattle.blob.specs.declared.types.Layout.{Layout}
 use Rattle.blob.specs.declared.types.Refusal.{Refusal}
-use Rattle.reader.specs.declared.counts.Counts.{Counts}
+use Rattle.tree.specs.declared.counts.Counts.{Counts}
 use Rattle.reader.specs.declared.seen.Seen.{Seen}
 use Rattle.reader.specs.Seen.{Spells}
-use Rattle.reader.specs.Verdict.{Open, verdict, property_fault, with_property}
+use Rattle.tree.specs.Counting.{with_property}
+use Rattle.reader.specs.Verdict.{Open, verdict, property_fault}
 
 -- the counts are within the limits, and the table has room for what may still come
 pub record Bounded (s : Seen) (c : Counts) : Type 0 where
@@ -41,5 +42,5 @@ Passed bs l p was after P (Err e) s c = (gs : List Open) → was gs ≡ Err e
 -- what a property did: it was refused, or is counted and its name is in the table
 abbrev pub Noted : Bytes → ℕ → List Bytes → Counts → ℕ → Bytes → Bytes → Result (Unit {0}) Refusal → Seen → Seen → Counts → Type 0
 Noted bs base ns c p name value (Ok u) was is d =
-    (property_fault ns c p name value ≡ None) × (d ≡ with_property c name value) × Bounded is d × Named bs base was is (ns ++ (name ∷ []))
+    (property_fault ns c p name value ≡ None) × (d ≡ with_property c (length name) (length value)) × Bounded is d × Named bs base was is (ns ++ (name ∷ []))
 Noted bs base ns c p name value (Err e) was is d = property_fault ns c p name value ≡ Some e

@@ -1,18 +1,17 @@
 // Nodes and their bodies.
-ghost use Rattle.std.specs.Prelude.{◌≡◌, ℕ, ◌+◌, ◌≤◌, Bool, true, false, List, [], ◌∷◌, ◌++◌, IfOk, Some, Ok};
+ghost use Rattle.std.specs.Prelude.{◌≡◌, ℕ, ◌+◌, ◌≤◌, true, false, List, [], ◌∷◌, ◌++◌, IfOk, Some};
 ghost use Rattle.std.specs.List.{between};
-ghost use Rattle.tree.specs.Entries.{tree_of, well_listed};
+ghost use Rattle.tree.specs.Counting.{zero};
+ghost use Rattle.tree.specs.Entries.{tree_of};
 ghost use Rattle.tree.specs.Places.{Bytes};
 ghost use Rattle.tree.specs.Trees.{Sound};
-ghost use Rattle.blob.specs.Header.{header};
 ghost use Rattle.blob.specs.Tokens.{begin, property, token_at};
 ghost use Rattle.reader.specs.Passing.{Bounded, Named, Restored, from, Passed, Noted};
-ghost use Rattle.reader.specs.Handing.{named_tokens, until};
-ghost use Rattle.reader.specs.Reading.{entries_of, tokens_of, reading, read_of, Tally, Exact};
+ghost use Rattle.reader.specs.Read.{read_of};
+ghost use Rattle.reader.specs.Reading.{entries_of, reading, Exact};
 ghost use Rattle.reader.specs.Seen.{Spells};
-ghost use Rattle.reader.specs.Verdict.{opened, kids, none};
+ghost use Rattle.reader.specs.Verdict.{opened, kids};
 
-use crate::counts::Counts;
 use crate::flat::Flat;
 use crate::seen::{CAPACITY, Seen};
 use blob::blob::Blob;
@@ -20,6 +19,7 @@ use blob::header::check_header;
 use blob::numbers::be32_at;
 use blob::types::{Refusal, Token};
 use names::names::{is_node_name, is_property_name};
+use tree::counts::Counts;
 
 // An open node: where its names begin in the table, the length of its path (0 for the root), whether a child has come.
 #[derive(Clone, Copy)]
@@ -47,9 +47,9 @@ fn read_property(
     if !is_property_name(name) || seen.has(blob.bytes, base, name) {
         return Err(Refusal::Name(at));
     }
-    if !counts.add_property(name, value) {
-        return Err(Refusal::Limit(at));
-    }
+    *counts = counts
+        .adding_property(name.len(), value.len())
+        .ok_or(Refusal::Limit(at))?;
     seen.push(blob.layout.strings + be32_at(blob.bytes, at + 8) as usize);
     Ok(())
 }
@@ -76,11 +76,12 @@ fn read_node(
     if !is_node_name(name) || seen.has(blob.bytes, frame.base, name) {
         return Err(Refusal::Name(at));
     }
-    if !counts.add_node(frame.path, name) {
-        return Err(Refusal::Limit(at));
-    }
+    let path = frame.path + 1 + name.len();
+    *counts = counts
+        .adding_node(path, name.len())
+        .ok_or(Refusal::Limit(at))?;
     seen.push(at + 4);
-    read_body(blob, next, frame.path + 1 + name.len(), seen, counts)
+    read_body(blob, next, path, seen, counts)
 }
 
 // The body from `start` of a node whose path has `path` bytes; answers where the token behind its end stands.
@@ -135,18 +136,14 @@ fn read_body(
 
 // The root, with nothing but skipped tokens around it, and the end of the block.
 fn read_tree(blob: &Blob) -> Result<Counts, Refusal>
-    ensures { result ≡ from blob.now.bytes.now blob.now.layout [] none blob.now.layout.start }
+    ensures { result ≡ from blob.now.bytes.now blob.now.layout [] zero blob.now.layout.start }
 {
     let mut p = blob.layout.start;
     let mut seen = Seen {
         at: [0; CAPACITY],
         used: 0,
     };
-    let mut counts = Counts {
-        nodes: 0,
-        properties: 0,
-        weight: 0,
-    };
+    let mut counts = Counts::zero();
     loop {
         let Some(step) = blob.token_at(p) else {
             return Err(Refusal::Token(p));
@@ -159,11 +156,7 @@ fn read_tree(blob: &Blob) -> Result<Counts, Refusal>
                 if name.len() != 0 {
                     return Err(Refusal::Name(p));
                 }
-                counts = Counts {
-                    nodes: 1,
-                    properties: 0,
-                    weight: 4,
-                };
+                counts = Counts::zero().with_node(0);
                 p = read_body(blob, step.next, 0, &mut seen, &mut counts)?;
             }
             Token::Finish => {
@@ -183,20 +176,12 @@ fn read_tree(blob: &Blob) -> Result<Counts, Refusal>
 // Reads a blob: where it is one within the limits, its tokens can be had; else the refusal says why not, and where.
 pub fn read(bytes: &[u8]) -> Result<Flat<'_>, Refusal>
     ensures value { read_of result ≡ reading bytes.now }
-    ensures bytes { IfOk result (λ f. f.bytes.now ≡ bytes.now) }
-    ensures layout { IfOk result (λ f. header bytes.now ≡ Ok f.layout) }
-    ensures counts { IfOk result (λ f. Tally f.counts (entries_of bytes.now f.layout)) }
-    ensures listed { IfOk result (λ f. well_listed (entries_of bytes.now f.layout) ≡ true) }
-    ensures named { IfOk result (λ f. named_tokens (until (tokens_of bytes.now f.layout)) ≡ true) }
-    ensures tree { IfOk result (λ f. Sound (tree_of f.layout.boot (entries_of bytes.now f.layout))) }
+    ensures bytes { IfOk result (λ f. f.blob.bytes.now ≡ bytes.now) }
+    ensures tree { IfOk result (λ f. Sound (tree_of f.blob.layout.boot (entries_of bytes.now f.blob.layout))) }
     ensures exact { Exact bytes.now }
 {
     let layout = check_header(bytes)?;
     let blob = Blob { bytes, layout };
     let counts = read_tree(&blob)?;
-    Ok(Flat {
-        bytes,
-        layout,
-        counts,
-    })
+    Ok(Flat { blob, counts })
 }

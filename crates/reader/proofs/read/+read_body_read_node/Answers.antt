@@ -1,11 +1,13 @@
+use Rattle.std.specs.Option.{ok_or}
 use Rattle.std.proofs.Common.{◌≡◌, ◌+◌, true, false, [], ◌∷◌, ◌++◌, length, sym, refl, ap, ◌∙◌, arith}
 use Rattle.std.proofs.lemmas.Result.{err_from_is_err_and}
 use Rattle.std.proofs.lemmas.Bool.Decides.{nat_tests}
+use Rattle.blob.specs.declared.types.Refusal.TheVariants.{Limit}
 use Rattle.reader.specs.Passing.{from}
-use Rattle.reader.specs.Verdict.{opened, kids, with_node}
+use Rattle.reader.specs.Verdict.{opened, kids}
 use Rattle.reader.proofs.Begun.{among-has}
 use Rattle.reader.proofs.Noting.{push-named, node-stands}
-use Rattle.reader.proofs.Passing.{verdict-none, verdict-some, node_bad, node-used, node_over, node-entered, kin-named, named_then, named_restored, passed-node}
+use Rattle.reader.proofs.Passing.{verdict-none, verdict-some, node_bad, node-used, node_over, node-entered, counted, uncounted, kin-named, named_then, named_restored, passed-node}
 use Rattle.reader.proofs.read.+read_body_read_node.Goals as goal
 use Rattle.reader.proofs.read.+read_body_read_node.Goals.{read_node-then-not-is_node_name-via-then-not-is_node_name, read_node-then-not-is_node_name-via-else-not-is_node_name+then-has}
 
@@ -97,12 +99,15 @@ read_node-returns-then-not-is_node_name t c = λ ns s gs.
           node-used c.args.blob.now.bytes.now c.args.blob.now.layout c.args.at c.args.next (opened c.args.frame.path c.args.frame.children ns) gs c.args.counts.now c.args.name.now c.requires.token (sym c.is_node_name.ensures ∙ w.if-not-is_node_name.false) (sym h ∙ sym w.has.ensures ∙ w.if-has.true)
     ]
 
-pub read_node-returns-then-not-add_node : goal.read_node-returns-then-not-add_node
-read_node-returns-then-not-add_node t c = λ ns s gs.
+pub read_node-returns-in_err-counts : goal.read_node-returns-in_err-counts
+read_node-returns-in_err-counts t c =
+    let r = err_from_is_err_and c.from_residual.result c.from_residual.ensures.1 in
+    let u = uncounted _ _ _ _ (sym c.in_err-counts.was ∙ c.ok_or.ensures.value ∙ ap (λ o. ok_or o (Limit c.args.at)) c.adding_node.ensures) in
+    rw (r.1, r.2, u.1) (λ ns s gs.
     let k = kin-named c.args.blob.now.bytes.now c.args.frame.base c.args.frame.path c.args.frame.children ns c.args.seen.now c.keep_children.new.self c.requires.above c.keep_children.ensures.at c.keep_children.ensures.used s in
     let h = among-has c.args.blob.now.bytes.now c.args.name.now _ _ k.spells in
     node_over c.args.blob.now.bytes.now c.args.blob.now.layout c.args.at c.args.next (opened c.args.frame.path c.args.frame.children ns) gs c.args.counts.now c.args.name.now c.requires.token (sym c.is_node_name.ensures ∙ c.if-not-is_node_name.false) (sym h ∙ sym c.has.ensures ∙ c.if-has.false)
-    (sym c.add_node.ensures.value ∙ c.if-not-add_node.true)
+    u.0)
 
 pub read_node-returns : goal.read_node-returns
 read_node-returns t c = λ ns s.
@@ -110,10 +115,10 @@ read_node-returns t c = λ ns s.
     let h = among-has c.args.blob.now.bytes.now c.args.name.now _ _ k.spells in
     let p = push-named c.args.blob.now.bytes.now c.args.frame.base _ c.args.name.now _ c.keep_children.new.self c.push.new.self k.above c.push.ensures.room c.push.ensures.at c.push.ensures.used k.spells (node-stands c.args.blob.now.bytes.now c.args.blob.now.layout c.args.at c.args.name.now _ c.requires.token) in
     let n = named_then c.args.blob.now.bytes.now c.args.frame.base c.args.seen.now c.keep_children.new.self c.push.new.self _ _ k p in
-    let counted : c.add_node.new.self ≡ with_node c.args.counts.now c.args.name.now = grind (arith, nat_tests) in
+    let m = counted _ _ _ _ (sym c.in_ok-counts.was ∙ c.ok_or.ensures.value ∙ ap (λ o. ok_or o (Limit c.args.at)) c.adding_node.ensures) in
     passed-node c.args.blob.now.bytes.now c.args.blob.now.layout c.args.at c.args.next _ _ _ _ _ c.read_body.result _ _ (omega arith)
     (λ r. named_restored c.args.blob.now.bytes.now c.args.frame.base c.args.seen.now c.push.new.self c.read_body.new.seen _ n r)
     (λ gs. node-entered c.args.blob.now.bytes.now c.args.blob.now.layout c.args.at c.args.next (opened c.args.frame.path c.args.frame.children ns) gs c.args.counts.now c.args.name.now c.requires.token (sym c.is_node_name.ensures ∙ c.if-not-is_node_name.false) (sym h ∙ sym c.has.ensures ∙ c.if-has.false)
-    (sym c.add_node.ensures.value ∙ c.if-not-add_node.false)
-    ∙ ap (λ d. from c.args.blob.now.bytes.now c.args.blob.now.layout (opened (c.args.frame.path + 1 + length c.args.name.now) false [] ∷ opened c.args.frame.path true (kids (opened c.args.frame.path c.args.frame.children ns) ++ (c.args.name.now ∷ [])) ∷ gs) d c.args.next) (sym counted))
+    m.0
+    ∙ ap (λ d. from c.args.blob.now.bytes.now c.args.blob.now.layout (opened (c.args.frame.path + 1 + length c.args.name.now) false [] ∷ opened c.args.frame.path true (kids (opened c.args.frame.path c.args.frame.children ns) ++ (c.args.name.now ∷ [])) ∷ gs) d c.args.next) (sym m.1))
     c.read_body.ensures
