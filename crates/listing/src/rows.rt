@@ -7,12 +7,13 @@ ghost use Rattle.tree.specs.Entries.{listed};
 ghost use Rattle.tree.specs.Places.{order, node_at, property_at};
 ghost use Rattle.listing.specs.Rows.{place_of, keyed, placed, with, Seated, arranged, stacked, told};
 
-use names::names::same_bytes;
 use names::paths::{compare_names, compare_paths};
 use reader::cursor::Tokens;
 use reader::tokens::Item;
 use std::alloc::{AllocError, Global};
 use std::cmp::Ordering;
+
+const ROOT: &[u8] = b"/";
 
 // A node, or a property of one, with its value.
 #[derive(Drop)]
@@ -78,91 +79,82 @@ pub fn arrange<'a>(heap: Global, mut rows: Vec<Row<'a>>) -> Result<Vec<Row<'a>>,
     Ok(sorted)
 }
 
-// The path of the innermost of the open nodes, which comes last; the root's where there is none.
-fn innermost(trail: &[Vec<u8>]) -> &[u8]
-    ensures { result.now ≡ top (stacked trail.now) }
-{
-    let n = trail.len();
-    if n == 0 {
-        return b"/";
-    }
-    trail[n - 1].as_slice()
+// The rows of the tokens so far, and the paths of the open nodes, the innermost last.
+#[derive(Drop)]
+struct Collector<'a> {
+    rows: Vec<Row<'a>>,
+    trail: Vec<Vec<u8>>,
 }
 
-// The path of a node so named in the open ones; outside all of them it is the root.
-fn path_in(heap: Global, trail: &[Vec<u8>], name: &[u8]) -> Result<Vec<u8>, AllocError>
-    ensures { IfOk result (λ v. v.items ≡ path_in (stacked trail.now) name.now) }
-{
-    if trail.len() == 0 {
-        return Vec::from_slice(heap, b"/");
-    }
-    let mut path = Vec::new(heap);
-    let parent = innermost(trail);
-    if !same_bytes(parent, b"/") {
-        path.extend_from_slice(parent)?;
-    }
-    path.push(b'/')?;
-    path.extend_from_slice(name)?;
-    Ok(path)
-}
-
-// A row for a node that begins, which is then open.
-fn enter<'a>(
-    heap: Global,
-    name: &[u8],
-    rows: &mut Vec<Row<'a>>,
-    trail: &mut Vec<Vec<u8>>,
-) -> Result<(), AllocError>
-    ensures rows { OnOk result (placed rows.new.items ≡ placed rows.old.items ++ ((node_at (path_in (stacked trail.old.items) name.now), []) ∷ [])) }
-    ensures trail { OnOk result (stacked trail.new.items ≡ path_in (stacked trail.old.items) name.now ∷ stacked trail.old.items) }
-{
-    let path = path_in(heap, trail.as_slice(), name)?;
-    let row = Row {
-        path: Vec::from_slice(heap, path.as_slice())?,
-        name: None,
-        value: b"",
-    };
-    rows.push(row)?;
-    trail.push(path)?;
-    Ok(())
-}
-
-// A row for a property of the innermost open node.
-fn add_property<'a>(
-    heap: Global,
-    name: &'a [u8],
-    value: &'a [u8],
-    rows: &mut Vec<Row<'a>>,
-    trail: &[Vec<u8>],
-) -> Result<(), AllocError>
-    ensures { OnOk result (placed rows.new.items ≡ placed rows.old.items ++ ((property_at (top (stacked trail.now)) name.now, value.now) ∷ [])) }
-{
-    let row = Row {
-        path: Vec::from_slice(heap, innermost(trail))?,
-        name: Some(name),
-        value,
-    };
-    rows.push(row)?;
-    Ok(())
-}
-
-// What one item adds to the rows, and does to the open nodes.
-fn note<'a>(
-    heap: Global,
-    item: Item<'a>,
-    rows: &mut Vec<Row<'a>>,
-    trail: &mut Vec<Vec<u8>>,
-) -> Result<(), AllocError>
-    ensures { OnOk result ((rest : Spelt) → told (placed rows.new.items) (stacked trail.new.items) rest ≡ told (placed rows.old.items) (stacked trail.old.items) (item_of item.entry ∷ rest)) }
-{
-    match item {
-        Item::Begin { at: _, name } => enter(heap, name, rows, trail),
-        Item::Property { at: _, name, value } => {
-            add_property(heap, name, value, rows, trail.as_slice())
+impl<'a> Collector<'a> {
+    // The path of the innermost open node; the root's where there is none.
+    fn innermost(&self) -> &[u8]
+        ensures { result.now ≡ top (stacked self.now.trail.items) }
+    {
+        match self.trail.last() {
+            Some(path) => path.as_slice(),
+            None => ROOT,
         }
-        Item::End { at: _ } => {
-            drop(trail.pop());
-            Ok(())
+    }
+
+    // The path of a node so named in the open ones; outside all of them it is the root.
+    fn path_in(&self, name: &[u8]) -> Result<Vec<u8>, AllocError>
+        ensures { IfOk result (λ v. v.items ≡ path_in (stacked self.now.trail.items) name.now) }
+    {
+        let heap = *self.trail.allocator();
+        if self.trail.is_empty() {
+            return Vec::from_slice(heap, ROOT);
+        }
+        let mut path = Vec::new(heap);
+        let parent = self.innermost();
+        if parent != ROOT {
+            path.extend_from_slice(parent)?;
+        }
+        path.push(b'/')?;
+        path.extend_from_slice(name)?;
+        Ok(path)
+    }
+
+    // A row for a node that begins, which is then open.
+    fn enter(&mut self, name: &[u8]) -> Result<(), AllocError>
+        ensures rows { OnOk result (placed self.new.rows.items ≡ placed self.old.rows.items ++ ((node_at (path_in (stacked self.old.trail.items) name.now), []) ∷ [])) }
+        ensures trail { OnOk result (stacked self.new.trail.items ≡ path_in (stacked self.old.trail.items) name.now ∷ stacked self.old.trail.items) }
+    {
+        let path = self.path_in(name)?;
+        self.rows.push(Row {
+            path: path.clone()?,
+            name: None,
+            value: b"",
+        })?;
+        self.trail.push(path)?;
+        Ok(())
+    }
+
+    // A row for a property of the innermost open node.
+    fn add_property(&mut self, name: &'a [u8], value: &'a [u8]) -> Result<(), AllocError>
+        ensures rows { OnOk result (placed self.new.rows.items ≡ placed self.old.rows.items ++ ((property_at (top (stacked self.old.trail.items)) name.now, value.now) ∷ [])) }
+        ensures trail { self.new.trail ≡ self.old.trail }
+    {
+        let path = Vec::from_slice(*self.trail.allocator(), self.innermost())?;
+        self.rows.push(Row {
+            path,
+            name: Some(name),
+            value,
+        })?;
+        Ok(())
+    }
+
+    // What one item adds to the rows, and does to the open nodes.
+    fn note(&mut self, item: Item<'a>) -> Result<(), AllocError>
+        ensures { OnOk result ((rest : Spelt) → told (placed self.new.rows.items) (stacked self.new.trail.items) rest ≡ told (placed self.old.rows.items) (stacked self.old.trail.items) (item_of item.entry ∷ rest)) }
+    {
+        match item {
+            Item::Begin { at: _, name } => self.enter(name),
+            Item::Property { at: _, name, value } => self.add_property(name, value),
+            Item::End { at: _ } => {
+                drop(self.trail.pop());
+                Ok(())
+            }
         }
     }
 }
@@ -171,11 +163,12 @@ fn note<'a>(
 pub fn collect_rows<'a>(heap: Global, tokens: Tokens<'a>) -> Result<Vec<Row<'a>>, AllocError>
     ensures { IfOk result (λ v. placed v.items ≡ listed (entries [] (ahead tokens.entry.blob.bytes.now tokens.entry.blob.layout tokens.entry.next))) }
 {
-    let mut tokens = tokens;
-    let mut rows = Vec::new(heap);
-    let mut trail = Vec::new(heap);
-    while let Some(item) = tokens.advance() {
-        note(heap, item, &mut rows, &mut trail)?;
+    let mut collector = Collector {
+        rows: Vec::new(heap),
+        trail: Vec::new(heap),
+    };
+    for item in tokens {
+        collector.note(item)?;
     }
-    Ok(rows)
+    Ok(collector.rows)
 }
