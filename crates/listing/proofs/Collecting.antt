@@ -134,8 +134,8 @@ pub row_more :
     (name : Option Bytes)
     (value : Bytes) →
     us ≡ rs ++ (row ∷ []) →
-    keyed row ≡ ((vec_items row.path, name), value) →
-    vec_items row.path ≡ path →
+    keyed row ≡ ((vec_items row.place.path, name), value) →
+    vec_items row.place.path ≡ path →
     placed us ≡ placed rs ++ (((path, name), value) ∷ [])
 row_more rs us row path name value p k q =
     placed-last us rs row p
