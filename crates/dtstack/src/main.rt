@@ -19,21 +19,16 @@ fn list_file(rt: &HostRuntime, file: &str) -> io::Result<()> {
 }
 
 fn main(rt: HostRuntime) -> io::Result<()> {
-    let mut args = env::args(&rt)?;
-    let _ = args.next();
-    let Some(command) = args.next() else {
-        return println!(rt; "{USAGE}");
-    };
-    if command.as_str() != "list" {
+    let mut args = env::args(&rt)?.skip(1);
+    let lists = args
+        .next()
+        .is_some_and(|command| command.as_str() == "list");
+    let mut files = args.peekable();
+    if !lists || files.peek().is_none() {
         return println!(rt; "{USAGE}");
     }
-    let mut any = false;
-    for file in args {
+    for file in files {
         list_file(&rt, file.as_str())?;
-        any = true;
-    }
-    if !any {
-        println!(rt; "{USAGE}")?;
     }
     Ok(())
 }

@@ -2,9 +2,11 @@
 use Rattle.std.proofs.Common.{◌≡◌, ℕ, ◌+◌, ◌-◌, ◌<◌, Bool, true, false, cond, ltb, List, [], ◌∷◌, ◌++◌, map, reverse, length, get_or, take, is_some, IfOk, Some, None, Ok, Err, vec_items, Option, Result, Vec, sym, refl, ap, ◌∙◌, append_assoc, append-nil, arith, Bor}
 use Rattle.std.specs.declared.alloc.Global.{Global}
 use Rattle.std.specs.Option.{option_to_list}
+use Rattle.std.specs.List.{AllZip}
+use Rattle.std.proofs.lemmas.Slice.Zip.{AllZip-map}
 use Rattle.std.specs.Str.{bytes_eq}
 use Rattle.std.proofs.lemmas.Result.{IfOk-weaker}
-use Rattle.std.proofs.lemmas.List.{map-append, reverse-append, take_more, take_all, length-reverse, length-map}
+use Rattle.std.proofs.lemmas.List.{map-append, map-id, reverse-append, take_more, take_all, length-reverse, length-map}
 use Rattle.std.proofs.lemmas.Bool.Decides.{nat_tests}
 use Rattle.names.specs.Paths.{root, child, stem}
 use Rattle.tree.specs.Places.{Bytes, Place}
@@ -27,28 +29,6 @@ Trail = List (Vec ℕ Global)
 
 pub stacked-push : (vs : Trail) (v : Vec ℕ Global) → stacked (vs ++ (v ∷ [])) ≡ vec_items v ∷ stacked vs
 stacked-push vs v = ap reverse (map-append vec_items vs (v ∷ [])) ∙ reverse-append (map vec_items vs) (vec_items v ∷ [])
-
-last-split : (vs : Trail) (e : Vec ℕ Global) → 0 < length vs → e ≡ get_or vs (length vs - 1) e → vs ≡ take (length vs - 1) vs ++ (e ∷ [])
-last-split vs e h p =
-    let n : length vs - 1 + 1 ≡ length vs = omega arith in
-    sym (take_all (length vs) vs (omega arith))
-    ∙ ap (λ (k : ℕ). take k vs) (sym n)
-    ∙ take_more vs (length vs - 1) e (omega arith)
-    ∙ ap (λ (x : Vec ℕ Global). take (length vs - 1) vs ++ (x ∷ [])) (sym p)
-
-stacked-last : (vs : Trail) (e : Vec ℕ Global) → 0 < length vs → e ≡ get_or vs (length vs - 1) e → stacked vs ≡ vec_items e ∷ stacked (take (length vs - 1) vs)
-stacked-last vs e h p = ap stacked (last-split vs e h p) ∙ stacked-push (take (length vs - 1) vs) e
-
-pub top-last : (vs : Trail) (e : Vec ℕ Global) → 0 < length vs → e ≡ get_or vs (length vs - 1) e → innermost (stacked vs) ≡ vec_items e
-top-last vs e h p = ap innermost (stacked-last vs e h p)
-
-pub top-none : (vs : Trail) → length vs ≡ 0 → innermost (stacked vs) ≡ root
-top-none [] h = refl
-top-none (v ∷ vs) h = absurd (omega (arith, h))
-
-pub path-none : (vs : Trail) (name : Bytes) → length vs ≡ 0 → path_in (stacked vs) name ≡ root
-path-none [] name h = refl
-path-none (v ∷ vs) name h = absurd (omega (arith, h))
 
 in_some : (ps : List Bytes) (name : Bytes) → 0 < length ps → path_in ps name ≡ child (innermost ps) name
 in_some [] name h = absurd (omega (arith, h))
@@ -146,15 +126,6 @@ pub stem-none : (v₀ parent top : Bytes) → v₀ ≡ [] → parent ≡ top →
 unfolding stem
 stem-none v₀ parent top p e f = p ∙ ap (λ (b : Bool). cond b [] parent) f ∙ ap stem e
 
-pub root-made :
-    {E : Type 0}
-    (r : Result (Vec ℕ Global) E)
-    (path : Bytes) →
-    path ≡ root →
-    IfOk r (λ v. vec_items v ≡ root) →
-    IfOk r (λ v. vec_items v ≡ path)
-root-made r path p h = IfOk-weaker r (λ v. vec_items v ≡ root) (λ v. vec_items v ≡ path) (λ v q. q ∙ sym p) h
-
 -- a row with this path behind the others
 pub row_more :
     (rs us : List Row)
@@ -163,8 +134,8 @@ pub row_more :
     (name : Option Bytes)
     (value : Bytes) →
     us ≡ rs ++ (row ∷ []) →
-    keyed row ≡ ((vec_items row.path, name), value) →
-    vec_items row.path ≡ path →
+    keyed row ≡ ((vec_items row.place.path, name), value) →
+    vec_items row.place.path ≡ path →
     placed us ≡ placed rs ++ (((path, name), value) ∷ [])
 row_more rs us row path name value p k q =
     placed-last us rs row p
@@ -219,3 +190,7 @@ pub end-made :
     told ps (stacked us) rest ≡ told ps (stacked vs) (item_of i ∷ rest)
 end-made ps vs us r n i at e p s l rest =
     end_more ps (stacked vs) (stacked us) at (popped vs us r p (s ∙ ap (λ (m : ℕ). ltb 0 m) l)) rest ∙ ap (λ (x : Item). told ps (stacked vs) (item_of x ∷ rest)) (sym e)
+
+-- clones of bytes are the same bytes
+pub cloned : (xs ys : Bytes) → AllZip (λ x y. y ≡ x) xs ys → ys ≡ xs
+cloned xs ys h = AllZip-map (λ x. x) xs ys h ∙ map-id xs

@@ -10,7 +10,6 @@ use Rattle.reader.specs.Reading.{Tally}
 use Rattle.listing.specs.declared.rows.Row.{Row}
 use Rattle.listing.specs.Page.{value_text, property_text, line_of, lines_of, good_line, good_page}
 use Rattle.listing.specs.Rows.{keyed, placed, with, arranged}
-use Rattle.listing.proofs.Arranging.{placed_at, placed-length}
 
 -- ---- what is appended only where a test holds
 
@@ -28,27 +27,6 @@ property-some o name v v₁ v₂ e p = p ∙ ap (λ (x : Option (Bor Bytes)). v�
 
 pub property-none : (o : Option (Bor Bytes)) (v v₁ v₂ : Bytes) → o ≡ None → v₂ ≡ v₁ → v₂ ≡ v₁ ++ property_text (option_map (λ x. x.now) o) v
 property-none o v v₁ v₂ e p = p ∙ sym (append-nil v₁) ∙ ap (λ (x : Option (Bor Bytes)). v₁ ++ property_text (option_map (λ x. x.now) x) v) (sym e)
-
--- ---- the lines
-
-pub lines_more :
-    (rs : List Row)
-    (e : Row)
-    (i : ℕ)
-    (all v w : Bytes) →
-    i < length rs →
-    e ≡ get_or rs i e →
-    v ++ lines_of (drop i (placed rs)) ≡ all →
-    w ≡ v ++ line_of (keyed e) →
-    w ++ lines_of (drop (i + 1) (placed rs)) ≡ all
-lines_more rs e i all v w h p inv q =
-    let rest = lines_of (drop (i + 1) (placed rs)) in
-    ap (λ (l : Bytes). l ++ rest) q ∙ append_assoc v (line_of (keyed e)) rest ∙ ap (λ (l : Places). v ++ lines_of l) (sym (placed_at rs e i h p)) ∙ inv
-
-pub lines-all : (rs : List Row) (i : ℕ) (all v : Bytes) → length rs ≤ i → v ++ lines_of (drop i (placed rs)) ≡ all → v ≡ all
-lines-all rs i all v h inv =
-    let n : length (placed rs) ≤ i = rw (placed-length rs) h in
-    sym (append-nil v) ∙ ap (λ (l : Bytes). v ++ l) (sym (at_drop_all lines_of (placed rs) i n)) ∙ inv
 
 -- ---- the page
 

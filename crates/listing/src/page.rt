@@ -3,11 +3,11 @@ ghost use Rattle.std.specs.Prelude.{◌≡◌, IfOk, Ok};
 ghost use Rattle.blob.specs.Header.{header};
 ghost use Rattle.reader.specs.Reading.{entries_of, reading, Tally};
 ghost use Rattle.listing.specs.Page.{value_text, line_of, lines_of, good_line, good_page, refused_line, page};
-ghost use Rattle.listing.specs.Rows.{keyed, placed};
+ghost use Rattle.listing.specs.Rows.{place_of, held};
 ghost use Rattle.listing.specs.Shown.{Appended};
 
 use crate::hex::push_hex;
-use crate::rows::{Row, arrange, collect_rows};
+use crate::rows::{Place, Sorted, arrange, collect_rows};
 use crate::text::{is_text, push_quoted};
 use blob::types::Refusal;
 use reader::counts::Counts;
@@ -16,11 +16,11 @@ use reader::read::read;
 use std::alloc::{AllocError, Global};
 
 // Appends the length of a value, its bytes, and its text where it is one.
-fn push_value(heap: Global, out: &mut Vec<u8>, value: &[u8]) -> Result<(), AllocError>
+fn push_value(out: &mut Vec<u8>, value: &[u8]) -> Result<(), AllocError>
     ensures { Appended result out.old.items out.new.items (value_text value.now) }
 {
     let len = value.len();
-    let count = format!(in heap; " {len}")?;
+    let count = format!(in *out.allocator(); " {len}")?;
     out.extend_from_slice(count.as_bytes())?;
     if len != 0 {
         out.push(b' ')?;
@@ -34,24 +34,24 @@ fn push_value(heap: Global, out: &mut Vec<u8>, value: &[u8]) -> Result<(), Alloc
 }
 
 // Appends the line of a place.
-fn push_row(heap: Global, out: &mut Vec<u8>, row: &Row) -> Result<(), AllocError>
-    ensures { Appended result out.old.items out.new.items (line_of (keyed row.now)) }
+fn push_row(out: &mut Vec<u8>, place: &Place, value: &[u8]) -> Result<(), AllocError>
+    ensures { Appended result out.old.items out.new.items (line_of (place_of place.now, value.now)) }
 {
-    out.extend_from_slice(row.path.as_slice())?;
-    if let Some(name) = row.name {
+    out.extend_from_slice(place.path.as_slice())?;
+    if let Some(name) = place.name {
         out.push(b' ')?;
         out.extend_from_slice(name)?;
-        push_value(heap, out, row.value)?;
+        push_value(out, value)?;
     }
     out.push(b'\n')?;
     Ok(())
 }
 
-fn push_rows(heap: Global, out: &mut Vec<u8>, rows: &[Row]) -> Result<(), AllocError>
-    ensures { Appended result out.old.items out.new.items (lines_of (placed rows.now)) }
+fn push_rows(out: &mut Vec<u8>, rows: &Sorted) -> Result<(), AllocError>
+    ensures { Appended result out.old.items out.new.items (lines_of (held rows.now.entries)) }
 {
-    for row in rows {
-        push_row(heap, out, row)?;
+    for (place, value) in rows {
+        push_row(out, place, *value)?;
     }
     Ok(())
 }
@@ -66,7 +66,7 @@ fn good_line(heap: Global, file: &str, boot: u32, counts: Counts) -> Result<Vec<
     let line = format!(in heap;
         "{file}: ok boot={boot} nodes={nodes} properties={properties} weight={weight}\n"
     )?;
-    Vec::from_slice(heap, line.as_bytes())
+    Ok(line.into_bytes())
 }
 
 // All that is printed of a blob that is accepted.
@@ -77,7 +77,7 @@ fn list_good(heap: Global, file: &str, flat: &Flat) -> Result<Vec<u8>, AllocErro
 {
     let mut out = good_line(heap, file, flat.boot_cpu(), flat.counts())?;
     let rows = arrange(heap, collect_rows(heap, flat.tokens())?)?;
-    push_rows(heap, &mut out, rows.as_slice())?;
+    push_rows(&mut out, &rows)?;
     Ok(out)
 }
 
@@ -87,7 +87,7 @@ fn list_refused(heap: Global, file: &str, refusal: Refusal) -> Result<Vec<u8>, A
     let number = refusal.number();
     let place = refusal.place();
     let line = format!(in heap; "{file}: refused {number} at {place}: {refusal}\n")?;
-    Vec::from_slice(heap, line.as_bytes())
+    Ok(line.into_bytes())
 }
 
 // What is printed of a file that holds these bytes.

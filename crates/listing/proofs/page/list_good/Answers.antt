@@ -1,14 +1,13 @@
 use Rattle.std.proofs.Common.{vec_items, ap, ◌∙◌}
 use Rattle.tree.specs.Entries.{listed}
 use Rattle.reader.specs.Reading.{entries_of}
-use Rattle.listing.specs.Rows.{placed}
+use Rattle.listing.specs.Rows.{placed, held}
 use Rattle.listing.proofs.Paging.{page-made}
 use Rattle.listing.proofs.page.list_good.Goals as goal
 
 pub returns : goal.returns
 returns c =
     let f = c.args.flat.now in
-    let v = c.as_slice.ensures.value in
     let s = c.tokens.ensures c.requires.layout in
     page-made
     c.args.file.now
@@ -16,11 +15,11 @@ returns c =
     f.counts
     (entries_of f.bytes.now f.layout)
     (placed (vec_items c.in_ok-collect_rows.field-0))
-    (placed (vec_items c.in_ok-rows.rows))
+    (held c.in_ok-rows.rows.entries)
     (vec_items c.in_ok-out.out)
     (vec_items c.push_rows.new.out)
     c.requires.tally
     (rw (c.boot_cpu.ensures, c.counts.ensures) at c.in_ok-out.ensures)
     (c.in_ok-collect_rows.ensures ∙ ap listed s.entries)
     c.in_ok-rows.ensures
-    (rw v at c.in_ok-push_rows.ensures)
+    c.in_ok-push_rows.ensures

@@ -9,12 +9,13 @@ use Rattle.listing.proofs.page.push_row.Goals.{in-Some+in_ok-push+in_ok-extend_f
 
 pub returns : goal.returns
 returns c =
-    let r = c.args.row.now in
+    let r = c.args.place.now in
+    let v = c.args.value.now in
     let a = c.in_ok-extend_from_slice.ensures.items in
-    let b : vec_items c.match-row.out ≡ vec_items c.extend_from_slice.new.self ++ property_text (option_map (λ x. x.now) r.name) r.value.now =
-    elim c.match-row.branch [
+    let b : vec_items c.match-place.out ≡ vec_items c.extend_from_slice.new.self ++ property_text (option_map (λ x. x.now) r.name) v =
+    elim c.match-place.branch [
       | in-Some+in_ok-push+in_ok-extend_from_slice-2+in_ok-push_value w ↦
-          property-some r.name w.in-Some.name r.value.now _ _ w.in-Some.is
+          property-some r.name w.in-Some.name v _ _ w.in-Some.is
           (ap vec_items w.out-is
           ∙ thrice
           (vec_items c.extend_from_slice.new.self)
@@ -23,11 +24,11 @@ returns c =
           _
           (32 ∷ [])
           w.in-Some.name.now
-          (value_text r.value.now)
+          (value_text v)
           w.in_ok-push.ensures.items
           w.in_ok-extend_from_slice-2.ensures.items
           w.in_ok-push_value.ensures)
-      | in_default w ↦ property-none r.name r.value.now _ _ w.in_default.is (ap vec_items w.out-is)
+      | in_default w ↦ property-none r.name v _ _ w.in_default.is (ap vec_items w.out-is)
     ] in
     thrice
     (vec_items c.args.out.now)
@@ -35,7 +36,7 @@ returns c =
     _
     _
     (vec_items r.path)
-    (property_text (option_map (λ x. x.now) r.name) r.value.now)
+    (property_text (option_map (λ x. x.now) r.name) v)
     (10 ∷ [])
     (a ∙ ap (λ (l : Bytes). vec_items c.args.out.now ++ l) c.as_slice.ensures.value)
     b

@@ -1,8 +1,8 @@
-use Rattle.std.proofs.Common.{◌≡◌, ◌++◌, drop, vec_items}
+use Rattle.std.proofs.Common.{◌≡◌, ◌++◌, vec_items}
 use Rattle.listing.specs.Page.{lines_of}
-use Rattle.listing.specs.Rows.{placed}
+use Rattle.listing.specs.Rows.{held}
 use Rattle.listing.proofs.page.push_rows.Given as goal
 
-abbrev pub invariant-loop-row : goal.invariant-loop-row
-invariant-loop-row l =
-    vec_items l.out ++ lines_of (drop l.row-index (placed l.rows)) ≡ vec_items l.initial.out ++ lines_of (placed l.rows)
+abbrev pub invariant-loop-place : goal.invariant-loop-place
+invariant-loop-place l =
+    vec_items l.out ++ lines_of (held l.place-iterator) ≡ vec_items l.initial.out ++ lines_of (held l.rows.entries)

@@ -1,4 +1,4 @@
-use Rattle.std.proofs.Common.{◌≡◌, ◌-◌, [], vec_items}
+use Rattle.std.proofs.Common.{◌≡◌, [], vec_items}
 use Rattle.reader.specs.Handing.{ahead}
 use Rattle.reader.specs.Reading.{entries}
 use Rattle.tree.specs.Entries.{listed}
@@ -7,8 +7,5 @@ use Rattle.listing.proofs.rows.collect_rows.Given as goal
 
 abbrev pub invariant-loop-item : goal.invariant-loop-item
 invariant-loop-item l =
-    told (placed (vec_items l.rows)) (stacked (vec_items l.trail)) (ahead l.tokens.blob.bytes.now l.tokens.blob.layout l.tokens.next)
-    ≡ listed (entries [] (ahead l.initial.tokens.blob.bytes.now l.initial.tokens.blob.layout l.initial.tokens.next))
-
-abbrev pub decreases-loop-item : goal.decreases-loop-item
-decreases-loop-item l = l.tokens.blob.layout.end - l.tokens.next
+    told (placed (vec_items l.collector.rows)) (stacked (vec_items l.collector.trail)) (ahead l.item-iterator.blob.bytes.now l.item-iterator.blob.layout l.item-iterator.next)
+    ≡ listed (entries [] (ahead l.tokens.blob.bytes.now l.tokens.blob.layout l.tokens.next))
