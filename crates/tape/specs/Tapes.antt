@@ -2,9 +2,9 @@
 use Rattle.std.specs.Prelude.{◌≡◌, ℕ, ◌+◌, ◌<◌, Bool, true, not, ◌&&◌, ◌||◌, List, [], ◌∷◌, ◌++◌, length, take, drop, Some, None, Ok, Err, Option, Result, ◌==◌, nat_le, slice_index_or, slice_set}
 use Rattle.std.specs.Borrow.{Bor}
 use Rattle.store.specs.declared.Refusal.{Refusal}
-use Rattle.tree.specs.Numbers.{pad4}
+use Rattle.tree.specs.Counting.{node_weight, property_weight}
 use Rattle.tree.specs.Places.{Bytes}
-use Rattle.tape.specs.declared.Counts.{Counts}
+use Rattle.tree.specs.declared.counts.Counts.{Counts}
 use Rattle.tape.specs.declared.Head.{Head}
 use Rattle.tape.specs.declared.Mark.{Mark}
 use Rattle.tape.specs.declared.Spot.{Spot}
@@ -57,12 +57,6 @@ Located ns spot b (Some s) = Here ns spot s × (stem_at ns s.node ≡ b)
 
 -- ---- what nodes count
 
-abbrev pub node_weight : ℕ → ℕ
-node_weight name = pad4 (name + 1)
-
-abbrev pub property_weight : ℕ → ℕ → ℕ
-property_weight name value = name + 1 + pad4 value
-
 unfoldable pub properties_weight : List Property → ℕ
 properties_weight [] = 0
 properties_weight (x ∷ xs) = property_weight (length x.0) (length x.1) + properties_weight xs
@@ -108,15 +102,6 @@ aside d (n ∷ ns) = nat_le n.depth d
 -- the node at an index has properties or children
 abbrev pub busy : List Node → ℕ → Bool
 busy ns i = not (length (properties_at ns i) == 0) || not (aside (nth ns i).depth (drop (i + 1) ns))
-
--- ---- whether the limits let a place in, by what is counted without it
-
-abbrev pub node_fits : Counts → ℕ → ℕ → Bool
-node_fits c path name = nat_le path 255 && (nat_le (c.nodes + 1) 256 && nat_le (c.weight + node_weight name) 24576)
-
-abbrev pub property_fits : ℕ → ℕ → ℕ → ℕ → Bool
-property_fits properties weight name value =
-    nat_le value 4096 && (nat_le (properties + 1) 1024 && nat_le (weight + property_weight name value) 24576)
 
 -- ---- what a question is answered with
 

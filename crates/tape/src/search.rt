@@ -1,20 +1,12 @@
 // Where a node or a property is.
 ghost use Rattle.std.specs.Prelude.{◌≡◌, ◌+◌, ◌<◌, true, length, drop};
 ghost use Rattle.names.specs.Paths.{path_text, stem};
-ghost use Rattle.std.specs.Str.{bytes_eq};
 ghost use Rattle.tape.specs.Nodes.{child_in, property_in};
 ghost use Rattle.tape.specs.Tapes.{Here, Located, nth, placed, properties_at};
 
 use crate::{Mark, Spot, Tape};
-use names::names::find;
-
-const SLASH: u8 = 47;
-
-pub fn same(a: &[u8], b: &[u8]) -> bool
-    ensures { result ≡ bytes_eq a.now b.now }
-{
-    a == b
-}
+use names::names::{find, same_bytes};
+use names::paths::SLASH;
 
 // The child so named of the node at `from`.
 fn find_child<T: Tape>(t: &T, from: Spot, name: &[u8]) -> Option<Spot>
@@ -29,7 +21,7 @@ fn find_child<T: Tape>(t: &T, from: Spot, name: &[u8]) -> Option<Spot>
         if head.depth <= top.depth {
             return None;
         }
-        if head.depth - top.depth == 1 && same(t.name(at), name) {
+        if head.depth - top.depth == 1 && same_bytes(t.name(at), name) {
             return Some(at);
         }
         at = head.next;
@@ -45,7 +37,7 @@ pub fn find_property<T: Tape>(t: &T, at: Spot, name: &[u8]) -> Option<Mark>
     let head = t.head(at);
     let mut m = head.first;
     while m.number < head.properties {
-        if same(t.property_name(m), name) {
+        if same_bytes(t.property_name(m), name) {
             return Some(m);
         }
         m = t.behind(m);

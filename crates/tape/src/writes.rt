@@ -2,64 +2,31 @@
 ghost use Rattle.std.specs.Prelude.{◌≡◌, ◌+◌, ◌-◌, ◌^◌, ◌<◌, ◌≤◌, true, [], length, Some, None};
 ghost use Rattle.store.specs.Calls.{add_node, drop_node, set_property, drop_property, changed, settled};
 ghost use Rattle.tape.specs.Nodes.{meaning_of};
-ghost use Rattle.tape.specs.Tapes.{Here, busy, node_fits, property_fits, node_weight, property_weight};
+ghost use Rattle.tape.specs.Tapes.{Here, busy};
+ghost use Rattle.tree.specs.Counting.{node_fits, property_fits};
 ghost use Rattle.tree.specs.Places.{node_at, property_at};
-ghost use Rattle.tree.specs.Numbers.{pad4};
 
 use crate::search::{find_node, find_property};
-use crate::{Counts, Mark, Spot, Tape};
+use crate::{Mark, Spot, Tape};
 use names::names::is_property_name;
 use names::paths::{is_path, leaf_start, parent_of};
 use store::Refusal;
-
-const MAX_NODES: usize = 256;
-
-const MAX_PROPERTIES: usize = 1024;
-
-const MAX_WEIGHT: usize = 24576;
-
-const MAX_PATH: usize = 255;
-
-const MAX_VALUE: usize = 4096;
-
-// Rounded up to a multiple of 4.
-fn padded(n: usize) -> usize
-    requires { n < 2 ^ 32 }
-    ensures { result ≡ pad4 n }
-{
-    (n + 3) / 4 * 4
-}
-
-pub fn node_weight(name: usize) -> usize
-    requires { name < 2 ^ 16 }
-    ensures { result ≡ node_weight name }
-{
-    padded(name + 1)
-}
-
-pub fn property_weight(name: usize, value: usize) -> usize
-    requires { (name < 2 ^ 16) × (value < 2 ^ 16) }
-    ensures { result ≡ property_weight name value }
-{
-    name + 1 + padded(value)
-}
+use tree::counts::Counts;
 
 // Whether the limits let a new node in.
 fn node_fits(c: Counts, path: usize, name: usize) -> bool
-    requires { (c.nodes ≤ 256) × (c.weight ≤ 24576) × (name < 2 ^ 16) }
+    requires { (c.weight ≤ 24576) × (name ≤ path) }
     ensures { result ≡ node_fits c path name }
 {
-    path <= MAX_PATH && c.nodes + 1 <= MAX_NODES && c.weight + node_weight(name) <= MAX_WEIGHT
+    c.adding_node(path, name).is_some()
 }
 
-// Whether the limits let a property in beside so many others of that weight.
-fn property_fits(properties: usize, weight: usize, name: usize, value: usize) -> bool
-    requires { (properties ≤ 1024) × (weight ≤ 24576) × (name < 2 ^ 16) }
-    ensures { result ≡ property_fits properties weight name value }
+// Whether the limits let a new property in.
+fn property_fits(c: Counts, name: usize, value: usize) -> bool
+    requires { c.weight ≤ 24576 }
+    ensures { result ≡ property_fits c name value }
 {
-    value <= MAX_VALUE
-        && properties + 1 <= MAX_PROPERTIES
-        && weight + property_weight(name, value) <= MAX_WEIGHT
+    c.adding_property(name, value).is_some()
 }
 
 // Whether a node has properties or children.
@@ -150,7 +117,7 @@ pub fn set_property<T: Tape>(
         None => Err(Refusal::Absent),
         Some(at) => match find_property(t, at, name) {
             None => {
-                if !property_fits(counts.properties, counts.weight, name.len(), value.len()) {
+                if !property_fits(counts, name.len(), value.len()) {
                     return Err(Refusal::Limit);
                 }
                 t.insert_property(at, name, value);
@@ -158,8 +125,8 @@ pub fn set_property<T: Tape>(
             }
             Some(m) => {
                 let old = t.value(m).len();
-                let rest = counts.weight - property_weight(name.len(), old);
-                if !property_fits(counts.properties - 1, rest, name.len(), value.len()) {
+                let rest = counts.without_property(name.len(), old);
+                if !property_fits(rest, name.len(), value.len()) {
                     return Err(Refusal::Limit);
                 }
                 if old == value.len() {

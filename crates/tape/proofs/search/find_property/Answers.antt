@@ -36,14 +36,14 @@ behind-m-requires g c =
       is = c.loop-m.invariant.1;
     }
 
-pub returns-then-same : goal.returns-then-same
-returns-then-same g c =
+pub returns-then-same_bytes : goal.returns-then-same_bytes
+returns-then-same_bytes g c =
     let t = c.args.t.now in
     let a = ap (λ m. m.node) c.head-head.ensures.first ∙ (g.T.Tape.numbered t c.args.at.node 0).0 in
     let xs = properties_at (g.T.Tape.nodes t) c.head-head.result.first.node in
     let k = c.loop-m.m.number in
     let l : k < length xs = subst (λ i. k < length (properties_at (g.T.Tape.nodes t) i)) (sym a) (omega (arith, c.head-head.ensures.properties, c.loop-m-test.true)) in
-    let s = ap (λ i. bytes_eq (get_or (properties_at (g.T.Tape.nodes t) i) k ([], [])).0 c.args.name.now) (sym c.loop-m.invariant.0) ∙ sym (ap (λ x. bytes_eq x c.args.name.now) c.property_name.ensures) ∙ sym c.if-same.ensures in
+    let s = ap (λ i. bytes_eq (get_or (properties_at (g.T.Tape.nodes t) i) k ([], [])).0 c.args.name.now) (sym c.loop-m.invariant.0) ∙ sym (ap (λ x. bytes_eq x c.args.name.now) c.property_name.ensures) ∙ sym c.if-same_bytes.ensures in
     ap Some (c.loop-m.invariant.1 ∙ ap (λ i. g.T.Tape.mark t i k) c.loop-m.invariant.0) ∙ sym (property_met (g.T.Tape.mark t c.head-head.result.first.node) xs c.args.name.now k l s) ∙ c.loop-m.invariant.2
     ∙ ap (λ i. placed (g.T.Tape.mark t i) 0 (property_in c.args.name.now (properties_at (g.T.Tape.nodes t) i))) a
 
@@ -54,7 +54,7 @@ loop-m-preserved g c =
     let xs = properties_at (g.T.Tape.nodes t) c.head-head.result.first.node in
     let k = c.loop-m.m.number in
     let l : k < length xs = subst (λ i. k < length (properties_at (g.T.Tape.nodes t) i)) (sym a) (omega (arith, c.head-head.ensures.properties, c.loop-m-test.true)) in
-    let s = ap (λ i. bytes_eq (get_or (properties_at (g.T.Tape.nodes t) i) k ([], [])).0 c.args.name.now) (sym c.loop-m.invariant.0) ∙ sym (ap (λ x. bytes_eq x c.args.name.now) c.property_name.ensures) ∙ sym c.if-same.ensures in
+    let s = ap (λ i. bytes_eq (get_or (properties_at (g.T.Tape.nodes t) i) k ([], [])).0 c.args.name.now) (sym c.loop-m.invariant.0) ∙ sym (ap (λ x. bytes_eq x c.args.name.now) c.property_name.ensures) ∙ sym c.if-same_bytes.ensures in
     let u = c.behind-m.ensures in
     let n = ap (λ m. m.node) u ∙ (g.T.Tape.numbered t c.loop-m.m.node (k + 1)).0 in
     let j = ap (λ m. m.number) u ∙ (g.T.Tape.numbered t c.loop-m.m.node (k + 1)).1 in

@@ -1,8 +1,9 @@
 use Rattle.std.proofs.Common.{◌≡◌, ◌+◌, ◌-◌, ◌<◌, ◌≤◌, [], length, None, sym, refl, ap, ◌∙◌, subst, arith, rules}
 use Rattle.names.specs.Paths.{path_text, stem, leaf, parent}
 use Rattle.std.proofs.lemmas.List.{length-drop, take_rest}
+use Rattle.tree.specs.Counting.{node_fits}
 use Rattle.tape.specs.Nodes.{valid, meaning_of, Missing}
-use Rattle.tape.specs.Tapes.{node_fits, with_node, bare_node}
+use Rattle.tape.specs.Tapes.{with_node, bare_node}
 use Rattle.tape.proofs.Sums.{within_limits}
 use Rattle.tape.proofs.Looks.{look_missing, look-node}
 use Rattle.tape.proofs.Outcomes.{parent-text, add_present, add_absent, add_limit, add_done, add_valid, add_after, leaf-short, depth-short, fits-path}
@@ -44,7 +45,7 @@ node_fits-requires g c =
     let cs = c.counts-counts.ensures in
     let size : length path - c.leaf_start-start.result ≡ length (leaf path) = sym (length-drop c.leaf_start-start.result path) ∙ ap length c.leaf_start-start.ensures.value in
     let r = within_limits boot ns v in
-    (omega (arith, cs.nodes, r.0), omega (arith, cs.weight, r.2), omega (arith, size, leaf-short boot ns v h path p gone i f.0.inside is c.counts-counts.result cs))
+    (omega (arith, cs.weight, r.2), omega arith)
 
 pub returns-in-None : goal.returns-in-None
 returns-in-None g c =

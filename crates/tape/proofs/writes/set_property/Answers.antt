@@ -1,6 +1,7 @@
 use Rattle.std.proofs.Common.{◌≡◌, ◌-◌, ◌<◌, ◌≤◌, ◌∷◌, length, set, None, sym, refl, ap, ◌∙◌, subst, arith, rules}
+use Rattle.tree.specs.Counting.{property_fits, property_weight, without_property}
 use Rattle.tape.specs.Nodes.{meaning_of, valid}
-use Rattle.tape.specs.Tapes.{properties_at, property_of, with_properties, property_fits, property_weight}
+use Rattle.tape.specs.Tapes.{properties_at, property_of, with_properties}
 use Rattle.tape.proofs.Looks.{look_missing, found-on, found_none}
 use Rattle.tape.proofs.Outcomes.{set-absent, name-short, new_limit, new-done, new-valid, new-after, old-short, old-weight, old-count, over_limit, over_done, over-valid, over-after, unset-valid, less-long, again-valid, again-after}
 use Rattle.tape.proofs.Sums.{within_limits}
@@ -31,7 +32,7 @@ property_fits-requires g c =
     let p = sym c.if-not-is_path.ensures in
     let q = sym c.if-not-is_property_name.ensures in
     let r = within_limits boot ns v in
-    (omega (arith, r.1, c.counts-counts.ensures.properties), omega (arith, r.2, c.counts-counts.ensures.weight), omega (arith, name-short boot ns v h path p name q))
+    omega (arith, r.2, c.counts-counts.ensures.weight)
 
 pub returns-then-not-property_fits : goal.returns-then-not-property_fits
 returns-then-not-property_fits g c =
@@ -107,8 +108,8 @@ value-old-requires g c =
     let found = fm.2 in
     fm.0
 
-pub property_weight-requires : goal.property_weight-requires
-property_weight-requires g c =
+pub without_property-rest-requires : goal.without_property-rest-requires
+without_property-rest-requires g c =
     let t = c.args.t.now in
     let ns = g.T.Tape.nodes t in
     let boot = g.T.Tape.boot t in
@@ -125,52 +126,12 @@ property_weight-requires g c =
     let fm = found-on ns (g.T.Tape.mark t) (g.T.Tape.numbered t) i l name c.find_property.result c.find_property.ensures m c.in-Some-find_property.is in
     let k = m.number in
     let found = fm.2 in
+    let cs = c.counts-counts.ensures in
     let size : c.value-old.result.now ≡ (property_of ns i k).1 = c.value-old.ensures ∙ ap (λ j. (property_of ns j k).1) fm.1 in
-    (omega (arith, name-short boot ns v h path p name q), omega (arith, ap length size, old-short boot ns v h path p name q i l f.1 k found))
-
-pub overflow_sub-rest : goal.overflow_sub-rest
-overflow_sub-rest g c =
-    let t = c.args.t.now in
-    let ns = g.T.Tape.nodes t in
-    let boot = g.T.Tape.boot t in
-    let v = g.T.Tape.sound t in
-    let path = c.args.path.now in
-    let name = c.args.name.now in
-    let h : 0 < length ns = omega (arith, c.counts-counts.ensures.nodes, c.if-counts-eq0.false) in
-    let p = sym c.if-not-is_path.ensures in
-    let q = sym c.if-not-is_property_name.ensures in
-    let f = c.in-Some.ensures in
-    let i = c.in-Some.at.node in
-    let l = f.0.inside in
-    let m = c.in-Some-find_property.m in
-    let fm = found-on ns (g.T.Tape.mark t) (g.T.Tape.numbered t) i l name c.find_property.result c.find_property.ensures m c.in-Some-find_property.is in
-    let k = m.number in
-    let found = fm.2 in
-    let size : c.value-old.result.now ≡ (property_of ns i k).1 = c.value-old.ensures ∙ ap (λ j. (property_of ns j k).1) fm.1 in
-    let w = c.property_weight.ensures ∙ ap (λ x. property_weight (length name) (length x)) size in
-    let b : c.property_weight.result ≤ c.counts-counts.result.weight = subst (λ x. x ≤ c.counts-counts.result.weight) (sym w) (old-weight boot ns v h path p name q i l f.1 k found c.counts-counts.result c.counts-counts.ensures) in
-    search rules
-
-pub overflow_sub-counts : goal.overflow_sub-counts
-overflow_sub-counts g c =
-    let t = c.args.t.now in
-    let ns = g.T.Tape.nodes t in
-    let boot = g.T.Tape.boot t in
-    let v = g.T.Tape.sound t in
-    let path = c.args.path.now in
-    let name = c.args.name.now in
-    let h : 0 < length ns = omega (arith, c.counts-counts.ensures.nodes, c.if-counts-eq0.false) in
-    let p = sym c.if-not-is_path.ensures in
-    let q = sym c.if-not-is_property_name.ensures in
-    let f = c.in-Some.ensures in
-    let i = c.in-Some.at.node in
-    let l = f.0.inside in
-    let m = c.in-Some-find_property.m in
-    let fm = found-on ns (g.T.Tape.mark t) (g.T.Tape.numbered t) i l name c.find_property.result c.find_property.ensures m c.in-Some-find_property.is in
-    let k = m.number in
-    let found = fm.2 in
-    let b : 1 ≤ c.counts-counts.result.properties = old-count boot ns v h path p name q i l f.1 k found c.counts-counts.result c.counts-counts.ensures in
-    search rules
+    record {
+      counted = (old-count boot ns v h path p name q i l f.1 k found c.counts-counts.result cs, subst (λ x. property_weight (length name) (length x) ≤ c.counts-counts.result.weight) (sym size) (old-weight boot ns v h path p name q i l f.1 k found c.counts-counts.result cs));
+      short = (omega (arith, name-short boot ns v h path p name q), omega (arith, ap length size, old-short boot ns v h path p name q i l f.1 k found));
+    }
 
 pub property_fits-requires-in-Some-find_property : goal.property_fits-requires-in-Some-find_property
 property_fits-requires-in-Some-find_property g c =
@@ -184,7 +145,7 @@ property_fits-requires-in-Some-find_property g c =
     let p = sym c.if-not-is_path.ensures in
     let q = sym c.if-not-is_property_name.ensures in
     let r = within_limits boot ns v in
-    (omega (arith, r.1, c.counts-counts.ensures.properties), omega (arith, r.2, c.counts-counts.ensures.weight), omega (arith, name-short boot ns v h path p name q))
+    omega (arith, r.2, c.counts-counts.ensures.weight, ap (λ x. x.weight) c.without_property-rest.ensures)
 
 pub returns-then-not-property_fits-2 : goal.returns-then-not-property_fits-2
 returns-then-not-property_fits-2 g c =
@@ -205,8 +166,8 @@ returns-then-not-property_fits-2 g c =
     let k = m.number in
     let found = fm.2 in
     let size : c.value-old.result.now ≡ (property_of ns i k).1 = c.value-old.ensures ∙ ap (λ j. (property_of ns j k).1) fm.1 in
-    let left : c.counts-counts.result.weight - c.property_weight.result ≡ c.counts-counts.result.weight - property_weight (length name) (length (property_of ns i k).1) = ap (λ x. c.counts-counts.result.weight - x) (c.property_weight.ensures ∙ ap (λ x. property_weight (length name) (length x)) size) in
-    let no = ap (λ x. property_fits (c.counts-counts.result.properties - 1) x (length name) (length c.args.value.now)) (sym left) ∙ sym c.if-not-property_fits-2.ensures in
+    let left : c.without_property-rest.result ≡ without_property c.counts-counts.result (length name) (length (property_of ns i k).1) = c.without_property-rest.ensures ∙ ap (λ x. without_property c.counts-counts.result (length name) (length x)) size in
+    let no = ap (λ x. property_fits x (length name) (length c.args.value.now)) (sym left) ∙ sym c.if-not-property_fits-2.ensures in
     record { answer = over_limit boot ns v h path p name q i l f.1 k found c.counts-counts.result c.counts-counts.ensures c.args.value.now no; after = refl }
 
 pub overwrite-requires : goal.overwrite-requires
@@ -228,8 +189,8 @@ overwrite-requires g c =
     let k = m.number in
     let found = fm.2 in
     let size : c.value-old.result.now ≡ (property_of ns i k).1 = c.value-old.ensures ∙ ap (λ j. (property_of ns j k).1) fm.1 in
-    let left : c.counts-counts.result.weight - c.property_weight.result ≡ c.counts-counts.result.weight - property_weight (length name) (length (property_of ns i k).1) = ap (λ x. c.counts-counts.result.weight - x) (c.property_weight.ensures ∙ ap (λ x. property_weight (length name) (length x)) size) in
-    let yes = ap (λ x. property_fits (c.counts-counts.result.properties - 1) x (length name) (length c.args.value.now)) (sym left) ∙ sym c.if-not-property_fits-2.ensures in
+    let left : c.without_property-rest.result ≡ without_property c.counts-counts.result (length name) (length (property_of ns i k).1) = c.without_property-rest.ensures ∙ ap (λ x. without_property c.counts-counts.result (length name) (length x)) size in
+    let yes = ap (λ x. property_fits x (length name) (length c.args.value.now)) (sym left) ∙ sym c.if-not-property_fits-2.ensures in
     let u = c.args.value.now in
     record {
       on = fm.0;
@@ -256,8 +217,8 @@ returns-then-old-value g c =
     let k = m.number in
     let found = fm.2 in
     let size : c.value-old.result.now ≡ (property_of ns i k).1 = c.value-old.ensures ∙ ap (λ j. (property_of ns j k).1) fm.1 in
-    let left : c.counts-counts.result.weight - c.property_weight.result ≡ c.counts-counts.result.weight - property_weight (length name) (length (property_of ns i k).1) = ap (λ x. c.counts-counts.result.weight - x) (c.property_weight.ensures ∙ ap (λ x. property_weight (length name) (length x)) size) in
-    let yes = ap (λ x. property_fits (c.counts-counts.result.properties - 1) x (length name) (length c.args.value.now)) (sym left) ∙ sym c.if-not-property_fits-2.ensures in
+    let left : c.without_property-rest.result ≡ without_property c.counts-counts.result (length name) (length (property_of ns i k).1) = c.without_property-rest.ensures ∙ ap (λ x. without_property c.counts-counts.result (length name) (length x)) size in
+    let yes = ap (λ x. property_fits x (length name) (length c.args.value.now)) (sym left) ∙ sym c.if-not-property_fits-2.ensures in
     let u = c.args.value.now in
     record {
       answer = over_done boot ns v h path p name q i l f.1 k found c.counts-counts.result c.counts-counts.ensures u yes;
@@ -303,8 +264,8 @@ insert_property-requires-in-Some-find_property g c =
     let k = m.number in
     let found = fm.2 in
     let size : c.value-old.result.now ≡ (property_of ns i k).1 = c.value-old.ensures ∙ ap (λ j. (property_of ns j k).1) fm.1 in
-    let left : c.counts-counts.result.weight - c.property_weight.result ≡ c.counts-counts.result.weight - property_weight (length name) (length (property_of ns i k).1) = ap (λ x. c.counts-counts.result.weight - x) (c.property_weight.ensures ∙ ap (λ x. property_weight (length name) (length x)) size) in
-    let yes = ap (λ x. property_fits (c.counts-counts.result.properties - 1) x (length name) (length c.args.value.now)) (sym left) ∙ sym c.if-not-property_fits-2.ensures in
+    let left : c.without_property-rest.result ≡ without_property c.counts-counts.result (length name) (length (property_of ns i k).1) = c.without_property-rest.ensures ∙ ap (λ x. without_property c.counts-counts.result (length name) (length x)) size in
+    let yes = ap (λ x. property_fits x (length name) (length c.args.value.now)) (sym left) ∙ sym c.if-not-property_fits-2.ensures in
     let u = c.args.value.now in
     let e = c.remove_property.ensures in
     record {
@@ -331,8 +292,8 @@ returns-else-old-value g c =
     let k = m.number in
     let found = fm.2 in
     let size : c.value-old.result.now ≡ (property_of ns i k).1 = c.value-old.ensures ∙ ap (λ j. (property_of ns j k).1) fm.1 in
-    let left : c.counts-counts.result.weight - c.property_weight.result ≡ c.counts-counts.result.weight - property_weight (length name) (length (property_of ns i k).1) = ap (λ x. c.counts-counts.result.weight - x) (c.property_weight.ensures ∙ ap (λ x. property_weight (length name) (length x)) size) in
-    let yes = ap (λ x. property_fits (c.counts-counts.result.properties - 1) x (length name) (length c.args.value.now)) (sym left) ∙ sym c.if-not-property_fits-2.ensures in
+    let left : c.without_property-rest.result ≡ without_property c.counts-counts.result (length name) (length (property_of ns i k).1) = c.without_property-rest.ensures ∙ ap (λ x. without_property c.counts-counts.result (length name) (length x)) size in
+    let yes = ap (λ x. property_fits x (length name) (length c.args.value.now)) (sym left) ∙ sym c.if-not-property_fits-2.ensures in
     let u = c.args.value.now in
     let e = c.remove_property.ensures in
     let d = c.insert_property-in-Some-find_property.ensures in
