@@ -3,6 +3,7 @@ pub mod Around
 pub mod Becomes
 pub mod Descent
 pub mod Finds
+pub mod Limits
 pub mod Looks
 pub mod Outcomes
 pub mod Sounds

@@ -19,13 +19,14 @@ use Rattle.store.specs.declared.Refusal.TheVariants.{Absent, Present, InUse, Lim
 use Rattle.store.specs.Calls.{holds, Good, there, admitted, none, names, child_on, property_on, in_use, add_node, drop_node, set_property, drop_property, changed, settled}
 use Rattle.store.specs.Laws.{Writes}
 use Rattle.store.proofs.Keeps.{store_laws, in-names, look-same}
-use Rattle.tape.specs.declared.Counts.{Counts}
+use Rattle.tree.specs.Counting.{node_fits, property_fits, node_weight, property_weight, without_property}
+use Rattle.tree.specs.declared.counts.Counts.{Counts}
 use Rattle.tape.specs.Nodes.{Node, Property, height, step, ended, path_of, listed, tree_from, meaning_of, fits, shaped, apart, spread, valid, Missing, child_in, property_in}
 use Rattle.tape.proofs.Arranged.{seek, seek-none, seek-here}
 use Rattle.tape.proofs.Around.{around, node-here}
 use Rattle.tape.proofs.Finds.{fit_parts, ended_join}
 use Rattle.tape.proofs.Splices.{dressed}
-use Rattle.tape.specs.Tapes.{nowhere, nth, properties_at, property_of, stem_at, Counted, aside, busy, bare_node, with_node, less_node, with_properties, less_property, node_fits, property_fits, node_weight, property_weight}
+use Rattle.tape.specs.Tapes.{nowhere, nth, properties_at, property_of, stem_at, Counted, aside, busy, bare_node, with_node, less_node, with_properties, less_property}
 use Rattle.tape.proofs.Becomes.{Becomes, renewed, after_is, node-added, node_removed, property-added, property_removed, property_replaced, depth_is, twice}
 use Rattle.tape.proofs.Looks.{open_is, look_missing, look-node, look-listed, path-of-stem, property-none, property-some}
 use Rattle.tape.proofs.Descent.{root-stem, at_index, stem_index, descend_some, descend_none, one_byte}
@@ -39,10 +40,6 @@ aside_end d ns j h = at_drop_all (aside d) ns j h
 
 aside-at : (d : ℕ) (ns : List Node) (j : ℕ) → j < length ns → aside d (drop j ns) ≡ leb (nth ns j).depth d
 aside-at d ns j h = at_drop_more (aside d) ns j nowhere h
-
-pub busy-none : (ns : List Node) (i : ℕ) → length (properties_at ns i) ≡ 0 → length ns ≤ i + 1 → false ≡ busy ns i
-busy-none ns i e h =
-    sym (or_from _ _ (ap not (eq-eqb (length (properties_at ns i)) 0 e)) (ap not (aside_end (nth ns i).depth ns (i + 1) h)))
 
 pub busy-next : (ns : List Node) (i : ℕ) → length (properties_at ns i) ≡ 0 → i + 1 < length ns → ltb (nth ns i).depth (nth ns (i + 1)).depth ≡ busy ns i
 busy-next ns i e h =
@@ -103,16 +100,13 @@ module _ (boot : ℕ) (ns : List Node) (v : valid boot ns ≡ true) (h : 0 < len
       parent-there : look t (node_at (parent p)) ≡ Some []
       parent-there = look-node boot ns v (parent p) (parent-text p good) i l is
 
-      pub leaf-short : length (leaf p) ≤ 63
-      leaf-short = (node_names (leaf p) (path_splits p good not_the_root).2).2
-
       pub depth-short : length p ≤ 255 → (nth ns i).depth ≤ 255
       depth-short b =
           let e = (path_splits p good not_the_root).0 in
           omega (arith, b, depth_is boot ns v i l, ap height is, height-length (stem (parent p)), sym (length-append (stem (parent p)) (47 ∷ leaf p)) ∙ ap length e)
 
       pub fits-path : node_fits c (length p) (length (leaf p)) ≡ true → length p ≤ 255
-      fits-path e = leb-true _ _ (and_parts (leb (length p) 255) _ e).0
+      fits-path e = leb-true _ _ (and_parts (leb (length p) 255) _ (and_parts _ _ e).1).0
 
       admit_is : admitted t (node_at p) [] ≡ node_fits c (length p) (length (leaf p))
       admit_is =
@@ -314,9 +308,6 @@ module _ (boot : ℕ) (ns : List Node) (v : valid boot ns ≡ true) (h : 0 < len
       pub drop-after : meaning_of boot (less_node ns i) ≡ changed (meaning_of boot ns) (node_at p) None
       drop-after = after_is boot ns _ (node_at p) None h (omega (arith, not_first, length-append (take i ns) (drop (i + 1) ns), length-take-le i ns (omega (arith, l)))) drop-becomes
 
-      pub drop-bare : length (properties_at ns i) ≡ 0
-      drop-bare = ap length bare
-
 -- ---- properties
 
 part-weight : (t : Tree) (k : Place) (u : Bytes) → look t k ≡ Some u → weigh k u ≤ weight t.places
@@ -380,18 +371,19 @@ module _ (boot : ℕ) (ns : List Node) (v : valid boot ns ≡ true) (h : 0 < len
       unset-none = sym (unset_open ∙ cond-false (there t'' (node_at p) && there t'' (property_at p c)) _ _ (and_right _ _ (none-there t'' (property_at p c) not_in)))
 
       module _ (n : Counts) (cs : Counted ns n) (w : Bytes) where
-        admit_add : admitted t'' (property_at p c) w ≡ property_fits n.properties n.weight (length c) (length w)
+        admit_add : admitted t'' (property_at p c) w ≡ property_fits n (length c) (length w)
         admit_add =
             let r = within_limits boot ns v in
             let a : leb (nodes t''.places + 0) 256 ≡ true = le-leb _ _ (omega (arith, nodes_are boot ns v, r.0)) in
             let b : properties t''.places + 1 ≡ n.properties + 1 = omega (arith, properties_are boot ns v, cs.properties) in
             let d : weight t''.places + property_weight (length c) (length w) ≡ n.weight + property_weight (length c) (length w) = omega (arith, weight_is boot ns v, cs.weight) in
             admit_new t'' (property_at p c) w not_in ∙ (λ j. (path-short j && leb (length w) 4096) && (a j && (leb (b j) 1024 && leb (d j) 24576)))
+            ∙ grind (arith, nat_tests)
 
-        pub new_limit : property_fits n.properties n.weight (length c) (length w) ≡ false → Err Limit ≡ set_property (meaning_of boot ns) p c w
+        pub new_limit : property_fits n (length c) (length w) ≡ false → Err Limit ≡ set_property (meaning_of boot ns) p c w
         new_limit e = sym (set-two w ∙ cond-false _ _ _ (admit_add ∙ e))
 
-        module _ (fit : property_fits n.properties n.weight (length c) (length w) ≡ true) where
+        module _ (fit : property_fits n (length c) (length w) ≡ true) where
           pub new-done : Ok tt ≡ set_property (meaning_of boot ns) p c w
           new-done = sym (set-two w ∙ cond-true _ _ _ (admit_add ∙ fit))
 
@@ -446,18 +438,19 @@ module _ (boot : ℕ) (ns : List Node) (v : valid boot ns ≡ true) (h : 0 < len
         abbrev rest : ℕ
         rest = n.weight - property_weight (length c) (length old)
 
-        admit_over : admitted t'' (property_at p c) w ≡ property_fits (n.properties - 1) rest (length c) (length w)
+        admit_over : admitted t'' (property_at p c) w ≡ property_fits (without_property n (length c) (length old)) (length c) (length w)
         admit_over =
             let r = within_limits boot ns v in
             let a : leb (nodes t''.places) 256 ≡ true = le-leb _ _ (omega (arith, nodes_are boot ns v, r.0)) in
             let b : properties t''.places ≡ n.properties - 1 + 1 = omega (arith, properties_are boot ns v, cs.properties, old-count n cs) in
             let e : weight t''.places ≡ rest + property_weight (length c) (length old) = omega (arith, weight_is boot ns v, cs.weight, old-weight n cs) in
             admit_other t'' p c old w rest is-in e ∙ (λ j. (path-short j && leb (length w) 4096) && (a j && (leb (b j) 1024 && leb (rest + property_weight (length c) (length w)) 24576)))
+            ∙ grind (arith, nat_tests)
 
-        pub over_limit : property_fits (n.properties - 1) rest (length c) (length w) ≡ false → Err Limit ≡ set_property (meaning_of boot ns) p c w
+        pub over_limit : property_fits (without_property n (length c) (length old)) (length c) (length w) ≡ false → Err Limit ≡ set_property (meaning_of boot ns) p c w
         over_limit e = sym (set-two w ∙ cond-false _ _ _ (admit_over ∙ e))
 
-        module _ (fit : property_fits (n.properties - 1) rest (length c) (length w) ≡ true) where
+        module _ (fit : property_fits (without_property n (length c) (length old)) (length c) (length w) ≡ true) where
           pub over_done : Ok tt ≡ set_property (meaning_of boot ns) p c w
           over_done = sym (set-two w ∙ cond-true _ _ _ (admit_over ∙ fit))
 

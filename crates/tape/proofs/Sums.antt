@@ -11,7 +11,8 @@ use Rattle.tree.proofs.Maps.{total-upd}
 use Rattle.tree.proofs.Places.{place-order}
 use Rattle.store.specs.Calls.{admitted}
 use Rattle.tape.specs.Nodes.{Node, Property, cut, height, step, path_of, listed, spread, tree_from, fits, shaped, valid}
-use Rattle.tape.specs.Tapes.{node_weight, property_weight, properties_weight, weight_of, properties_of}
+use Rattle.tree.specs.Counting.{node_weight, property_weight}
+use Rattle.tape.specs.Tapes.{properties_weight, weight_of, properties_of}
 use Rattle.tape.proofs.Arranged.{total-arranged}
 use Rattle.tape.proofs.Around.{root-parts, fits-nil}
 use Rattle.tape.proofs.Finds.{fit_parts, fit-step, path-full}

@@ -1,14 +1,16 @@
 -- Spots on a tape of nodes, and what is read there. Assumes nothing.
-use Rattle.std.specs.Prelude.{◌≡◌, ℕ, ◌+◌, ◌<◌, Bool, true, not, ◌&&◌, ◌||◌, List, [], ◌∷◌, ◌++◌, length, take, drop, Some, None, Ok, Err, Option, Result, ◌==◌, nat_le, slice_index_or, slice_set}
+use Rattle.std.specs.Prelude.{◌≡◌, ℕ, ◌+◌, ◌<◌, Bool, true, false, not, ◌&&◌, ◌||◌, ◌⊎◌, List, [], ◌∷◌, ◌++◌, length, take, drop, Some, None, Ok, Err, Option, Result, ◌==◌, nat_le, slice_index_or, slice_set}
 use Rattle.std.specs.Borrow.{Bor}
+use Rattle.names.specs.Paths.{path_text, stem}
 use Rattle.store.specs.declared.Refusal.{Refusal}
-use Rattle.tree.specs.Numbers.{pad4}
+use Rattle.store.specs.declared.Refusal.TheVariants.{BadName, Closed}
+use Rattle.tree.specs.Counting.{node_weight, property_weight}
 use Rattle.tree.specs.Places.{Bytes}
-use Rattle.tape.specs.declared.Counts.{Counts}
+use Rattle.tree.specs.declared.counts.Counts.{Counts}
 use Rattle.tape.specs.declared.Head.{Head}
 use Rattle.tape.specs.declared.Mark.{Mark}
 use Rattle.tape.specs.declared.Spot.{Spot}
-use Rattle.tape.specs.Nodes.{Node, Property, ended, Missing}
+use Rattle.tape.specs.Nodes.{Node, Property, ended, Missing, property_in}
 
 abbrev pub nowhere : Node
 nowhere = record { depth = 0; name = []; properties = [] }
@@ -55,13 +57,30 @@ abbrev pub Located : List Node → (ℕ → Spot) → Bytes → Option Spot → 
 Located ns spot b None = Missing b [] ns
 Located ns spot b (Some s) = Here ns spot s × (stem_at ns s.node ≡ b)
 
+-- a search among the properties of the node at an index: the mark of the one so named, or none where no one is
+abbrev pub Owned : List Node → (ℕ → ℕ → Mark) → ℕ → Bytes → Option Mark → Type 0
+Owned ns mark i c None = property_in c (properties_at ns i) ≡ None
+Owned ns mark i c (Some m) = On ns mark m × (m.node ≡ i) × (property_in c (properties_at ns i) ≡ Some m.number)
+
+-- ---- how a call begins
+
+-- the tape is closed, or a path or another name breaks its rule
+abbrev pub Refused : List Node → Bytes → Bool → Refusal → Type 0
+Refused ns p named e =
+    ((length ns ≡ 0) × (e ≡ Closed)) ⊎ ((0 < length ns) × ((path_text p && named) ≡ false) × (e ≡ BadName))
+
+-- the tape is open, the names are by their rules, and the node at the path was searched for
+pub record Entered (ns : List Node) (spot : ℕ → Spot) (p : Bytes) (b : Bool) (o : Option Spot) : Type 0 where
+  pub opened : 0 < length ns
+  pub path : path_text p ≡ true
+  pub named : b ≡ true
+  pub at : Located ns spot (stem p) o
+
+abbrev pub Opened : List Node → (ℕ → Spot) → Bytes → Bool → Result (Option Spot) Refusal → Type 0
+Opened ns spot p named (Err e) = Refused ns p named e
+Opened ns spot p named (Ok o) = Entered ns spot p named o
+
 -- ---- what nodes count
-
-abbrev pub node_weight : ℕ → ℕ
-node_weight name = pad4 (name + 1)
-
-abbrev pub property_weight : ℕ → ℕ → ℕ
-property_weight name value = name + 1 + pad4 value
 
 unfoldable pub properties_weight : List Property → ℕ
 properties_weight [] = 0
@@ -108,15 +127,6 @@ aside d (n ∷ ns) = nat_le n.depth d
 -- the node at an index has properties or children
 abbrev pub busy : List Node → ℕ → Bool
 busy ns i = not (length (properties_at ns i) == 0) || not (aside (nth ns i).depth (drop (i + 1) ns))
-
--- ---- whether the limits let a place in, by what is counted without it
-
-abbrev pub node_fits : Counts → ℕ → ℕ → Bool
-node_fits c path name = nat_le path 255 && (nat_le (c.nodes + 1) 256 && nat_le (c.weight + node_weight name) 24576)
-
-abbrev pub property_fits : ℕ → ℕ → ℕ → ℕ → Bool
-property_fits properties weight name value =
-    nat_le value 4096 && (nat_le (properties + 1) 1024 && nat_le (weight + property_weight name value) 24576)
 
 -- ---- what a question is answered with
 

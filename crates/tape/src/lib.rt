@@ -11,6 +11,8 @@ pub mod questions;
 pub mod search;
 pub mod writes;
 
+use tree::counts::Counts;
+
 // Where a node is: its index, that of the next property, and where its bytes begin.
 #[derive(Clone, Copy)]
 pub struct Spot {
@@ -35,14 +37,6 @@ pub struct Head {
     pub properties: usize,
     pub first: Mark,
     pub next: Spot,
-}
-
-// What the limits count.
-#[derive(Clone, Copy)]
-pub struct Counts {
-    pub nodes: usize,
-    pub properties: usize,
-    pub weight: usize,
 }
 
 // A list of nodes in memory, with its tree's boot CPU number. Without nodes it is closed.

@@ -1,20 +1,13 @@
 // Where a node or a property is.
 ghost use Rattle.std.specs.Prelude.{◌≡◌, ◌+◌, ◌<◌, true, length, drop};
 ghost use Rattle.names.specs.Paths.{path_text, stem};
-ghost use Rattle.std.specs.Str.{bytes_eq};
 ghost use Rattle.tape.specs.Nodes.{child_in, property_in};
-ghost use Rattle.tape.specs.Tapes.{Here, Located, nth, placed, properties_at};
+ghost use Rattle.tape.specs.Tapes.{Here, Located, Opened, Owned, nth, placed, properties_at};
 
 use crate::{Mark, Spot, Tape};
-use names::names::find;
-
-const SLASH: u8 = 47;
-
-pub fn same(a: &[u8], b: &[u8]) -> bool
-    ensures { result ≡ bytes_eq a.now b.now }
-{
-    a == b
-}
+use names::names::{find, same_bytes};
+use names::paths::{SLASH, is_path};
+use store::Refusal;
 
 // The child so named of the node at `from`.
 fn find_child<T: Tape>(t: &T, from: Spot, name: &[u8]) -> Option<Spot>
@@ -29,7 +22,7 @@ fn find_child<T: Tape>(t: &T, from: Spot, name: &[u8]) -> Option<Spot>
         if head.depth <= top.depth {
             return None;
         }
-        if head.depth - top.depth == 1 && same(t.name(at), name) {
+        if head.depth - top.depth == 1 && same_bytes(t.name(at), name) {
             return Some(at);
         }
         at = head.next;
@@ -40,12 +33,13 @@ fn find_child<T: Tape>(t: &T, from: Spot, name: &[u8]) -> Option<Spot>
 // The property so named of the node at `at`.
 pub fn find_property<T: Tape>(t: &T, at: Spot, name: &[u8]) -> Option<Mark>
     requires { Here (T.Tape.nodes t.now) (T.Tape.spot t.now) at }
-    ensures { result ≡ placed (T.Tape.mark t.now at.node) 0 (property_in name.now (properties_at (T.Tape.nodes t.now) at.node)) }
+    ensures value { result ≡ placed (T.Tape.mark t.now at.node) 0 (property_in name.now (properties_at (T.Tape.nodes t.now) at.node)) }
+    ensures owned { Owned (T.Tape.nodes t.now) (T.Tape.mark t.now) at.node name.now result }
 {
     let head = t.head(at);
     let mut m = head.first;
     while m.number < head.properties {
-        if same(t.property_name(m), name) {
+        if same_bytes(t.property_name(m), name) {
             return Some(m);
         }
         m = t.behind(m);
@@ -75,4 +69,17 @@ pub fn find_node<T: Tape>(t: &T, path: &[u8]) -> Option<Spot>
         }
         rest = &rest[n + 1..];
     }
+}
+
+// The node at a path of an open tape. `named` says whether the other name of the call is by its rule.
+pub fn open_node<T: Tape>(t: &T, path: &[u8], named: bool) -> Result<Option<Spot>, Refusal>
+    ensures { Opened (T.Tape.nodes t.now) (T.Tape.spot t.now) path.now named result }
+{
+    if t.counts().nodes == 0 {
+        return Err(Refusal::Closed);
+    }
+    if !is_path(path) || !named {
+        return Err(Refusal::BadName);
+    }
+    Ok(find_node(t, path))
 }

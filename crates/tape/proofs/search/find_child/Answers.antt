@@ -4,7 +4,7 @@ use Rattle.std.proofs.lemmas.Bool.{and_left, and_right, ne_eqb}
 use Rattle.tape.specs.Tapes.{nth}
 use Rattle.tape.proofs.Turns.{child-end, child-left, child_met, child-on, child-same}
 use Rattle.tape.proofs.search.find_child.Goals as goal
-use Rattle.tape.proofs.search.find_child.Goals.{else-head-top-eq1-via-then-head-top-eq1+else-same, else-head-top-eq1-via-else-head-top-eq1}
+use Rattle.tape.proofs.search.find_child.Goals.{else-head-top-eq1-via-then-head-top-eq1+else-same_bytes, else-head-top-eq1-via-else-head-top-eq1}
 
 pub loop-at-init : goal.loop-at-init
 loop-at-init g c =
@@ -26,12 +26,12 @@ returns-then-head-top g c =
     sym (child-left (g.T.Tape.spot t) (g.T.Tape.nodes t) c.head-top.result.depth c.args.name.now c.loop-at.at.node l (omega (arith, c.head-head.ensures.depth, c.if-head-top.true)))
     ∙ c.loop-at.invariant.1 ∙ child-same (g.T.Tape.spot t) (g.T.Tape.nodes t) c.args.name.now _ _ _ _ c.head-top.ensures.depth i
 
-pub returns-then-same : goal.returns-then-same
-returns-then-same g c =
+pub returns-then-same_bytes : goal.returns-then-same_bytes
+returns-then-same_bytes g c =
     let t = c.args.t.now in
     let i = ap (λ s. s.node) c.head-top.ensures.next ∙ g.T.Tape.spotted t (c.args.from.node + 1) in
     let l : c.loop-at.at.node < length (g.T.Tape.nodes t) = omega (arith, c.counts-count.ensures.nodes, c.loop-at-test.true) in
-    let s = sym (ap (λ x. bytes_eq x c.args.name.now) c.name.ensures) ∙ sym c.if-same.ensures in
+    let s = sym (ap (λ x. bytes_eq x c.args.name.now) c.name.ensures) ∙ sym c.if-same_bytes.ensures in
     ap Some c.loop-at.invariant.0
     ∙ sym (child_met (g.T.Tape.spot t) (g.T.Tape.nodes t) c.head-top.result.depth c.args.name.now c.loop-at.at.node l (omega (arith, c.head-head.ensures.depth, c.if-head-top.false, c.if-head-top-eq1.true)) s)
     ∙ c.loop-at.invariant.1 ∙ child-same (g.T.Tape.spot t) (g.T.Tape.nodes t) c.args.name.now _ _ _ _ c.head-top.ensures.depth i
@@ -47,7 +47,7 @@ loop-at-preserved g c =
     let l : c.loop-at.at.node < length ns = omega (arith, c.counts-count.ensures.nodes, c.loop-at-test.true) in
     let off : (eqb n.depth (m + 1) && bytes_eq n.name name) ≡ false =
     elim c.else-head-top-eq1.branch [
-      | else-head-top-eq1-via-then-head-top-eq1+else-same w ↦ and_right _ _ (sym (ap (λ x. bytes_eq x name) w.name.ensures) ∙ sym w.if-same.ensures)
+      | else-head-top-eq1-via-then-head-top-eq1+else-same_bytes w ↦ and_right _ _ (sym (ap (λ x. bytes_eq x name) w.name.ensures) ∙ sym w.if-same_bytes.ensures)
       | else-head-top-eq1-via-else-head-top-eq1 w ↦ and_left _ _ (ne_eqb n.depth (m + 1) (λ z. w.if-head-top-eq1.false (omega (arith, z, c.head-head.ensures.depth))))
     ] in (
       c.head-head.ensures.next ∙ ap (g.T.Tape.spot t) (sym i),
