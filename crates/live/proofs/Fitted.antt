@@ -4,7 +4,8 @@ use Rattle.std.proofs.lemmas.Bool.{and_parts, and_from, or_cases, or_right, eqb-
 use Rattle.std.proofs.lemmas.List.{length-append, length-take-le, length-drop, take-append-drop}
 use Rattle.tree.specs.Places.{Bytes}
 use Rattle.tape.specs.Nodes.{Node, valid}
-use Rattle.tape.specs.Tapes.{nth, properties_at, bare_node, with_node, with_properties, weight_of, node_weight, property_weight}
+use Rattle.tape.specs.Tapes.{nth, properties_at, bare_node, with_node, with_properties, weight_of}
+use Rattle.tree.specs.Counting.{node_weight, property_weight}
 use Rattle.tape.proofs.Sums.{within_limits}
 use Rattle.live.specs.declared.memory.Memory.{Memory}
 use Rattle.live.specs.Records.{held, cell_of, property_bytes, bytes_of, cells_of, Whole}

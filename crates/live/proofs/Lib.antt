@@ -1,6 +1,5 @@
 pub mod Coded
 pub mod Fitted
 pub mod Flat
-pub mod Gap
 pub mod Kept
 pub mod Moved

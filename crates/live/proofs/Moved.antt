@@ -4,10 +4,11 @@ use borrow.Rule.Slice.PartMut.{put_mid}
 use Rattle.std.proofs.lemmas.List.{take_at, drop_at, take-append-drop, drop_more, drop-drop, length-append, length-map, length-take-le, length-drop, length-set, map-append, map-set, take-map, drop-map, set_split, set-append_left, set-get_or, get_or-map}
 use Rattle.tree.specs.Places.{Bytes}
 use Rattle.tape.specs.Nodes.{Node, Property, valid}
-use Rattle.tape.specs.Tapes.{nowhere, nth, properties_at, property_of, bare_node, with_node, less_node, with_properties, less_property, weight_of, node_weight, property_weight, properties_weight}
+use Rattle.tape.specs.Tapes.{nowhere, nth, properties_at, property_of, bare_node, with_node, less_node, with_properties, less_property, weight_of, properties_weight}
+use Rattle.tree.specs.Counting.{node_weight, property_weight}
 use Rattle.live.specs.declared.memory.Memory.{Memory}
 use Rattle.live.specs.Records.{cell_of, property_bytes, row_of, rows_of, cells_of, bytes_of, nodes_from, used_rows, used_cells, used_bytes, held, room_for, Renewed}
-use Rattle.live.specs.Splices.{spliced_in, spliced_out}
+use Rattle.splices.specs.Splices.{spliced_in, spliced_out}
 use Rattle.live.proofs.Coded.{nodes_coded, bytes_join, cells_join, property-bytes_join}
 use Rattle.live.proofs.Kept.{bytes-at, cells_at_lem, bytes_on}
 

@@ -5,9 +5,9 @@ ghost use Rattle.tape.specs.Nodes.{valid};
 ghost use Rattle.tape.specs.Tapes.{Here, On, bare_node, with_node, less_node, with_properties, less_property, properties_at, property_of};
 
 use crate::memory::{Memory, NodeRecord, PropertyRecord};
-use crate::slices::{insert_slice, remove_slice};
-use tape::writes::{node_weight, property_weight};
+use splices::{insert_slice, remove_slice};
 use tape::{Mark, Spot};
+use tree::counts::{node_weight, property_weight};
 
 // A node without properties, where the spot is.
 pub fn put_node(m: &mut Memory, s: Spot, depth: usize, name: &[u8])

@@ -5,4 +5,3 @@ pub mod edits;
 pub mod live_store;
 pub mod memory;
 pub mod reads;
-pub mod slices;

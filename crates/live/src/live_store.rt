@@ -9,7 +9,8 @@ pub mod calls;
 use crate::edits::{cut_node, cut_property, put_node, put_property, write_value};
 use crate::memory::Memory;
 use crate::reads::{head_at, mark_behind, name_at, property_name_at, value_at};
-use tape::{Counts, Head, Mark, Spot, Tape};
+use tape::{Head, Mark, Spot, Tape};
+use tree::counts::Counts;
 
 pub struct Live<'a> {
     memory: Memory<'a>,

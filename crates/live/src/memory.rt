@@ -1,5 +1,5 @@
 // Node records, property records and a byte pool, lent to a store.
-use tape::Counts;
+use tree::counts::Counts;
 
 // A node: its depth, the length of its name, how many properties it has and how many bytes they take.
 #[derive(Clone, Copy)]

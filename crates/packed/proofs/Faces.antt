@@ -5,7 +5,8 @@ use Rattle.tree.specs.Places.{Bytes}
 use Rattle.blob.specs.Tokens.{Tok, begin, end}
 use Rattle.packed.specs.Packing.{token_bytes, token_size, name_bytes, name_size, structure, strings, size_of, names_of, header_bytes, packed}
 use Rattle.packed.specs.Regions.{memory, Holding}
-use Rattle.packed.specs.Splices.{spliced_in, spliced_out, Resized}
+use Rattle.packed.specs.Headers.{Resized}
+use Rattle.splices.specs.Splices.{spliced_in, spliced_out}
 use Rattle.packed.specs.declared.region.Region.{Region}
 use Rattle.std.specs.List.{between}
 use Rattle.packed.proofs.Grown.{brought-in, taken_out}

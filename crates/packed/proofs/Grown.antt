@@ -5,21 +5,7 @@ use Rattle.std.specs.List.{between}
 use Rattle.tree.specs.Numbers.{pad4}
 use Rattle.tree.specs.Places.{Bytes}
 use Rattle.packed.specs.Packing.{padded}
-use Rattle.packed.specs.Splices.{spliced_in, spliced_out, written}
-
-pub grown : (xs new : Bytes) (at n : ℕ) → at + length new ≤ length xs → n ≡ at + length new → take n (written xs at new) ≡ take at xs ++ new
-grown xs new at n h e =
-    let l = length-take-le at xs (omega arith) in
-    let w = length-append (take at xs) new in
-    ap (take n) (sym (append_assoc (take at xs) new (drop (at + length new) xs))) ∙ take_at (take at xs ++ new) (drop (at + length new) xs) n (omega arith)
-
-pub length-written : (xs new : Bytes) (at : ℕ) → at + length new ≤ length xs → length (written xs at new) ≡ length xs
-length-written xs new at h =
-    let a = length-append (take at xs) (new ++ drop (at + length new) xs) in
-    let b = length-append new (drop (at + length new) xs) in
-    let c = length-take-le at xs (omega arith) in
-    let d = length-drop (at + length new) xs in
-    omega arith
+use Rattle.splices.specs.Splices.{spliced_in, spliced_out}
 
 -- a zero byte behind a text, and padding
 pub padding : (name : Bytes) (n : ℕ) → n ≡ pad4 (length name + 1) - length name → name ++ replicate n 0 ≡ padded (name ++ (0 ∷ []))
@@ -50,6 +36,3 @@ taken_out m n a t b used at j k e la lt h =
     let la2 = length-append a t in
     let q : drop (at + j) (take used m) ≡ b = ap (drop (at + j)) (e ∙ sym (append_assoc a t b)) ∙ drop_at (a ++ t) b (at + j) (omega arith) in
     h ∙ (λ i. p i ++ q i)
-
-pub grow : (xs ys new : Bytes) (at n : ℕ) → ys ≡ written xs at new → at + length new ≤ length xs → n ≡ at + length new → (take n ys ≡ take at xs ++ new) × (length ys ≡ length xs)
-grow xs ys new at n e h k = (ap (take n) e ∙ grown xs new at n h k, ap length e ∙ length-written xs new at h)

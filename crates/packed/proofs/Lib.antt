@@ -2,7 +2,6 @@ pub mod Cursors
 pub mod Decoded
 pub mod Faces
 pub mod Full
-pub mod Gap
 pub mod Grown
 pub mod Marks
 pub mod Named

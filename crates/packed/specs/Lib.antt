@@ -1,4 +1,4 @@
+pub mod Headers
 pub mod Packing
 pub mod Regions
-pub mod Splices
 pub mod Stands

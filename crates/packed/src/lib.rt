@@ -6,7 +6,6 @@ ghost use Rattle.packed.specs.Stands.{TokenLaws, NodeLaws};
 pub mod putting;
 pub mod reading;
 pub mod region;
-pub mod slices;
 
 // What holds of the blob of a list of nodes.
 pub fn packing_stands() -> u8

@@ -1,53 +1,85 @@
-// Tokens and strings written behind the used part of the memory.
+// Tokens and strings written behind the used bytes of lent ones.
 ghost use Rattle.std.specs.Prelude.{◌≡◌, ◌+◌, ◌≤◌, [], ◌∷◌, ◌++◌, length, take, replicate};
 ghost use Rattle.blob.specs.Tokens.{begin, property};
+ghost use Rattle.packed.specs.Headers.{Resized};
 ghost use Rattle.packed.specs.Packing.{token_bytes};
-ghost use Rattle.packed.specs.Splices.{written, Resized};
-ghost use Rattle.tree.specs.Numbers.{pad4};
+ghost use Rattle.splices.specs.Splices.{written};
+ghost use Rattle.tree.specs.Numbers.{bytes32, pad4};
 
-use crate::slices::{put, put32};
-use blob::numbers::rounded4;
+use splices::lent::Lent;
+use splices::put;
+use tree::numbers::rounded4;
+
+const BEGIN: u32 = 1;
+
+const PROPERTY: u32 = 3;
 
 // Writes zero bytes, four at the most.
-fn put_zeros(xs: &mut [u8], at: usize, n: usize)
-    requires { (at + n ≤ length xs.old) × (n ≤ 4) }
-    ensures { xs.new ≡ written xs.old at (replicate n 0) }
+fn put_zeros(out: &mut Lent<u8>, n: usize)
+    requires { (out.old.used + n ≤ length out.old.items.now) × (n ≤ 4) }
+    ensures used { out.new.used ≡ out.old.used + n }
+    ensures items { take out.new.used out.new.items.now ≡ take out.old.used out.old.items.now ++ replicate n 0 }
+    ensures kept { length out.new.items.now ≡ length out.old.items.now }
 {
     let zeros = [0u8; 4];
-    put(xs, at, &zeros[0..n]);
+    out.append(&zeros[0..n]);
+}
+
+// Writes the four bytes of a number.
+fn append32(out: &mut Lent<u8>, n: u32)
+    requires { out.old.used + 4 ≤ length out.old.items.now }
+    ensures used { out.new.used ≡ out.old.used + 4 }
+    ensures items { take out.new.used out.new.items.now ≡ take out.old.used out.old.items.now ++ bytes32 n }
+    ensures kept { length out.new.items.now ≡ length out.old.items.now }
+{
+    out.append(&n.to_be_bytes());
 }
 
 // A begin token.
-pub fn put_begin(xs: &mut [u8], used: usize, name: &[u8])
-    requires { (used + (4 + pad4 (length name.now + 1)) ≤ length xs.old) × (used + (4 + pad4 (length name.now + 1)) ≤ 40960) }
-    ensures { take (used + (4 + pad4 (length name.now + 1))) xs.new ≡ take used xs.old ++ token_bytes 0 (begin name.now) }
+pub fn put_begin(out: &mut Lent<u8>, name: &[u8])
+    requires { (out.old.used + (4 + pad4 (length name.now + 1)) ≤ length out.old.items.now) × (out.old.used + (4 + pad4 (length name.now + 1)) ≤ 40960) }
+    ensures used { out.new.used ≡ out.old.used + (4 + pad4 (length name.now + 1)) }
+    ensures items { take out.new.used out.new.items.now ≡ take out.old.used out.old.items.now ++ token_bytes 0 (begin name.now) }
+    ensures kept { length out.new.items.now ≡ length out.old.items.now }
 {
-    put32(xs, used, 1);
-    put(xs, used + 4, name);
+    append32(out, BEGIN);
+    out.append(name);
     let n = name.len();
-    put_zeros(xs, used + 4 + n, rounded4(n + 1) - n);
+    put_zeros(out, rounded4(n + 1) - n);
 }
 
 // A property token whose name is at `k` in the strings block.
-pub fn put_property(xs: &mut [u8], used: usize, k: u32, value: &[u8])
-    requires { (used + (12 + pad4 (length value.now)) ≤ length xs.old) × (used + (12 + pad4 (length value.now)) ≤ 40960) }
-    ensures { take (used + (12 + pad4 (length value.now))) xs.new ≡ take used xs.old ++ token_bytes k (property [] value.now) }
+pub fn put_property(out: &mut Lent<u8>, k: u32, value: &[u8])
+    requires { (out.old.used + (12 + pad4 (length value.now)) ≤ length out.old.items.now) × (out.old.used + (12 + pad4 (length value.now)) ≤ 40960) }
+    ensures used { out.new.used ≡ out.old.used + (12 + pad4 (length value.now)) }
+    ensures items { take out.new.used out.new.items.now ≡ take out.old.used out.old.items.now ++ token_bytes k (property [] value.now) }
+    ensures kept { length out.new.items.now ≡ length out.old.items.now }
 {
     let n = value.len();
-    put32(xs, used, 3);
-    put32(xs, used + 4, n as u32);
-    put32(xs, used + 8, k);
-    put(xs, used + 12, value);
-    put_zeros(xs, used + 12 + n, rounded4(n) - n);
+    append32(out, PROPERTY);
+    append32(out, n as u32);
+    append32(out, k);
+    out.append(value);
+    put_zeros(out, rounded4(n) - n);
 }
 
 // A string.
-pub fn put_string(xs: &mut [u8], used: usize, name: &[u8])
-    requires { (used + (length name.now + 1) ≤ length xs.old) × (used + (length name.now + 1) ≤ 40960) }
-    ensures { take (used + (length name.now + 1)) xs.new ≡ take used xs.old ++ (name.now ++ (0 ∷ [])) }
+pub fn put_string(out: &mut Lent<u8>, name: &[u8])
+    requires { (out.old.used + (length name.now + 1) ≤ length out.old.items.now) × (out.old.used + (length name.now + 1) ≤ 40960) }
+    ensures used { out.new.used ≡ out.old.used + (length name.now + 1) }
+    ensures items { take out.new.used out.new.items.now ≡ take out.old.used out.old.items.now ++ (name.now ++ (0 ∷ [])) }
+    ensures kept { length out.new.items.now ≡ length out.old.items.now }
 {
-    put(xs, used, name);
-    put_zeros(xs, used + name.len(), 1);
+    out.append(name);
+    put_zeros(out, 1);
+}
+
+// Writes the four bytes of a number at `at`.
+pub fn put32(xs: &mut [u8], at: usize, n: u32)
+    requires { at + 4 ≤ length xs.old }
+    ensures { xs.new ≡ written xs.old at (bytes32 n) }
+{
+    put(xs, at, &n.to_be_bytes());
 }
 
 // The sizes of the two blocks in the header.

@@ -8,9 +8,10 @@ ghost use Rattle.tape.specs.Tapes.{Counted, Here, On, Reads, nth, properties_at,
 ghost use Rattle.tree.specs.Numbers.{be32};
 
 use crate::region::Region;
-use blob::numbers::rounded4;
 use names::names::find;
-use tape::{Counts, Head, Mark, Spot};
+use tape::{Head, Mark, Spot};
+use tree::counts::Counts;
+use tree::numbers::rounded4;
 
 const END: u32 = 2;
 

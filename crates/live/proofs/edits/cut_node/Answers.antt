@@ -1,9 +1,10 @@
 use Rattle.std.proofs.Common.{◌≡◌, ◌-◌, ◌<◌, ◌≤◌, length, get_or, sym, refl, ap, ◌∙◌, arith, rules}
 use Rattle.std.proofs.lemmas.List.{nil_from_length}
-use Rattle.tape.specs.Tapes.{properties_at, less_node, node_weight, weight_of}
+use Rattle.tape.specs.Tapes.{properties_at, less_node, weight_of}
+use Rattle.tree.specs.Counting.{node_weight}
 use Rattle.live.specs.declared.memory.NodeRecord.{NodeRecord}
 use Rattle.live.specs.Records.{held}
-use Rattle.live.specs.Splices.{spliced_out}
+use Rattle.splices.specs.Splices.{spliced_out}
 use Rattle.live.proofs.Kept.{count-is, size_is, spot_row, spot_in_lem, spot-at, spot-low, at-short}
 use Rattle.live.proofs.Fitted.{room-parts, room-from}
 use Rattle.live.proofs.Moved.{renew, rows-less, cells-less, bytes-less, weight-less}

@@ -1,10 +1,11 @@
 use Rattle.std.proofs.Common.{◌≡◌, ◌+◌, ◌-◌, ◌<◌, ◌≤◌, length, get_or, take, set, sym, refl, ap, ◌∙◌, subst, arith, rules}
 use Rattle.std.proofs.lemmas.List.{length-set}
-use Rattle.tape.specs.Tapes.{nth, properties_at, property_of, with_properties, less_property, property_weight, weight_of}
+use Rattle.tape.specs.Tapes.{nth, properties_at, property_of, with_properties, less_property, weight_of}
+use Rattle.tree.specs.Counting.{property_weight}
 use Rattle.live.specs.declared.memory.NodeRecord.{NodeRecord}
 use Rattle.live.specs.declared.memory.PropertyRecord.{PropertyRecord}
 use Rattle.live.specs.Records.{held, cell_of, cells_of, bytes_of, property_bytes, rows_of}
-use Rattle.live.specs.Splices.{spliced_out}
+use Rattle.splices.specs.Splices.{spliced_out}
 use Rattle.live.proofs.Kept.{count-is, size_is, cells_are, bounds, spot_row, spot_in_lem, spot-at, spot-property, spot-low, spot_few, mark_cell, mark-in, mark-at, mark-property, on-short, cells-short}
 use Rattle.live.proofs.Fitted.{room-parts, room-from}
 use Rattle.live.proofs.Moved.{renew, take-set-in, rows_other, row_cut, cells_cut, bytes_cut, cut-sizes, weight-cut}

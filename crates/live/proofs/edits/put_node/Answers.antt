@@ -1,7 +1,8 @@
 use Rattle.std.proofs.Common.{◌+◌, ◌≤◌, [], ◌∷◌, length, sym, refl, ap, ◌∙◌, subst, arith, rules}
-use Rattle.tape.specs.Tapes.{bare_node, with_node, node_weight}
+use Rattle.tape.specs.Tapes.{bare_node, with_node}
+use Rattle.tree.specs.Counting.{node_weight}
 use Rattle.live.specs.Records.{held, row_of, property_bytes}
-use Rattle.live.specs.Splices.{spliced_in}
+use Rattle.splices.specs.Splices.{spliced_in}
 use Rattle.live.proofs.Fitted.{node-room, front-in, room-parts, room-from}
 use Rattle.live.proofs.Kept.{count-is}
 use Rattle.live.proofs.Moved.{renew, rows_more, cells_same, bytes-more, weight-more}

@@ -1,9 +1,10 @@
 use Rattle.std.proofs.Common.{◌≡◌, ◌+◌, ◌<◌, ◌≤◌, [], ◌∷◌, length, get_or, take, set, sym, refl, ap, ◌∙◌, subst, arith, rules}
 use Rattle.std.proofs.lemmas.List.{length-set}
-use Rattle.tape.specs.Tapes.{nth, properties_at, with_properties, property_weight}
+use Rattle.tape.specs.Tapes.{nth, properties_at, with_properties}
+use Rattle.tree.specs.Counting.{property_weight}
 use Rattle.live.specs.declared.memory.NodeRecord.{NodeRecord}
 use Rattle.live.specs.Records.{held, cell_of, bytes_of, rows_of}
-use Rattle.live.specs.Splices.{spliced_in}
+use Rattle.splices.specs.Splices.{spliced_in}
 use Rattle.live.proofs.Kept.{count-is, size_is, cells_are, spot_row, spot_in_lem, spot-at, spot-property, spot-low, spot_few, at-short, all-cells}
 use Rattle.live.proofs.Fitted.{room-parts, room-from, property-room}
 use Rattle.live.proofs.Moved.{renew, take-set-in, rows_other, row_put, cells-put, bytes-put, weight-put}

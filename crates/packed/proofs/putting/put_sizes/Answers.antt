@@ -2,7 +2,7 @@ use Rattle.std.proofs.Common.{◌≡◌, ℕ, ◌+◌, ◌++◌, refl, ap, ◌�
 use Rattle.tree.specs.Numbers.{bytes32}
 use Rattle.tree.specs.Places.{Bytes}
 use Rattle.packed.specs.Packing.{header_bytes}
-use Rattle.packed.specs.Splices.{written}
+use Rattle.splices.specs.Splices.{written}
 use Rattle.packed.proofs.putting.put_sizes.Goals as goal
 
 resized : (boot n₀ s₀ n s : ℕ) (rest : Bytes) → written (written (written (written (header_bytes boot n₀ s₀ ++ rest) 4 (bytes32 (56 + n + s))) 12 (bytes32 (56 + n))) 32 (bytes32 s)) 36 (bytes32 n) ≡ header_bytes boot n s ++ rest

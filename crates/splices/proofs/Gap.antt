@@ -3,7 +3,8 @@ use Rattle.std.proofs.Common.{◌≡◌, ℕ, ◌+◌, ◌-◌, ◌≤◌, List,
 use borrow.Rule.Slice.PartMut.{put_mid}
 use Rattle.std.proofs.lemmas.List.{length-append, length-take-le, take_at, drop-drop, take-take, drop-take}
 use Rattle.std.specs.List.{between}
-use Rattle.packed.specs.Splices.{spliced_in, spliced_out}
+use Rattle.std.proofs.Math.Seq.{take-append-add}
+use Rattle.splices.specs.Splices.{spliced_in, spliced_out, written}
 
 -- a part behind the used one, brought into it
 pub brought : {X : Type 0} (xs ys : List X) (used at n k : ℕ) → at ≤ used → used + n ≤ length xs → k ≡ used + n - at
@@ -43,3 +44,22 @@ closed xs ys used at n k low room ek e =
     let z : at + (used - at) ≡ used = omega arith in
     let b : drop (at + n) (take used xs) ≡ drop n mid = sym (drop-drop n at (take used xs)) ∙ ap (drop n) (ap (λ j. drop at (take j xs)) (sym z) ∙ drop-take at (used - at) xs) in
     ap (take (used - n)) whole ∙ take_at (take at xs ++ drop n mid) _ (used - n) size ∙ (λ i. sym a i ++ sym b i)
+
+-- a part of the used elements
+pub part-is : {X : Type 0} (xs : List X) (used at n k : ℕ) → at + n ≤ used → k ≡ n → take k (drop at xs) ≡ take n (drop at (take used xs))
+part-is xs used at n k low e =
+    let z : at + (used - at) ≡ used = omega arith in
+    ap (λ j. take j (drop at xs)) e
+    ∙ sym (ap (take n) (ap (λ j. drop at (take j xs)) (sym z) ∙ drop-take at (used - at) xs) ∙ take-take n (used - at) (drop at xs) (omega arith))
+
+-- what is written over used elements stays among them
+pub written-within : {X : Type 0} (xs new : List X) (used at : ℕ) → at + length new ≤ used → used ≤ length xs → take used (written xs at new) ≡ written (take used xs) at new
+written-within xs new used at low room =
+    let j : ℕ = at + length new in
+    let r : ℕ = used - (at + length new) in
+    let z : at + length new + r ≡ used = omega arith in
+    let l : length (take at xs ++ new) + r ≡ used = omega (arith, length-append (take at xs) new, length-take-le at xs (omega arith)) in
+    let a : take at (take used xs) ≡ take at xs = take-take at used xs (omega arith) in
+    let b : drop (at + length new) (take used xs) ≡ take r (drop (at + length new) xs) = ap (λ k. drop (at + length new) (take k xs)) (sym z) ∙ drop-take (at + length new) r xs in
+    ap (take used) (sym (append_assoc (take at xs) new (drop j xs))) ∙ ap (λ k. take k ((take at xs ++ new) ++ drop j xs)) (sym l)
+    ∙ take-append-add (take at xs ++ new) (drop j xs) r ∙ append_assoc (take at xs) new (take r (drop j xs)) ∙ (λ i. sym a i ++ (new ++ sym b i))

@@ -1,0 +1,65 @@
+// Lent elements of which the first ones are in use.
+ghost use Rattle.std.specs.Prelude.{◌≡◌, ◌+◌, ◌-◌, ◌≤◌, ◌++◌, length, take, drop};
+ghost use Rattle.splices.specs.Splices.{spliced_in, spliced_out, written};
+
+use crate::{insert_slice, put, remove_slice};
+
+pub struct Lent<'a, T> {
+    pub items: &'a mut [T],
+    pub used: usize,
+    pub ghost within: { used ≤ length items.now },
+}
+
+impl<T: Copy> Lent<'_, T> {
+    // The `n` used elements from index `at` on.
+    pub fn part(&self, at: usize, n: usize) -> &[T]
+        requires { at + n ≤ self.now.used }
+        ensures { result.now ≡ take n (drop at (take self.now.used self.now.items.now)) }
+    {
+        &self.items[at..at + n]
+    }
+
+    // Puts `new` behind the used elements.
+    pub fn append(&mut self, new: &[T])
+        requires room { self.old.used + length new.now ≤ length self.old.items.now }
+        ensures used { self.new.used ≡ self.old.used + length new.now }
+        ensures items { take self.new.used self.new.items.now ≡ take self.old.used self.old.items.now ++ new.now }
+        ensures kept { length self.new.items.now ≡ length self.old.items.now }
+    {
+        put(self.items, self.used, new);
+        self.used += new.len();
+    }
+
+    // Puts `new` at index `at` of the used elements; those past it move up.
+    pub fn insert(&mut self, at: usize, new: &[T])
+        requires order { at ≤ self.old.used }
+        requires room { self.old.used + length new.now ≤ length self.old.items.now }
+        ensures used { self.new.used ≡ self.old.used + length new.now }
+        ensures items { take self.new.used self.new.items.now ≡ spliced_in (take self.old.used self.old.items.now) at new.now }
+        ensures kept { length self.new.items.now ≡ length self.old.items.now }
+    {
+        insert_slice(self.items, self.used, at, new);
+        self.used += new.len();
+    }
+
+    // Takes `n` of the used elements from index `at` on; those past them move down.
+    pub fn remove(&mut self, at: usize, n: usize)
+        requires order { at + n ≤ self.old.used }
+        ensures used { self.new.used ≡ self.old.used - n }
+        ensures items { take self.new.used self.new.items.now ≡ spliced_out (take self.old.used self.old.items.now) at n }
+        ensures kept { length self.new.items.now ≡ length self.old.items.now }
+    {
+        remove_slice(self.items, self.used, at, n);
+        self.used -= n;
+    }
+
+    // Writes `new` over the used elements from index `at` on.
+    pub fn overwrite(&mut self, at: usize, new: &[T])
+        requires order { at + length new.now ≤ self.old.used }
+        ensures used { self.new.used ≡ self.old.used }
+        ensures items { take self.new.used self.new.items.now ≡ written (take self.old.used self.old.items.now) at new.now }
+        ensures kept { length self.new.items.now ≡ length self.old.items.now }
+    {
+        put(self.items, at, new);
+    }
+}
