@@ -18,11 +18,9 @@ pub const NAME_ROOM: usize = 63;
 const SLASH: u8 = b'/';
 
 // The places of a tree come in document order: below a node its properties, then its children with all below them.
-pub fn order_stands() -> u8
+pub fn order_stands()
     ensures { TreeRuns }
-{
-    0
-}
+{}
 
 // Puts a slash and a name behind the first `stem` bytes, and answers how long they are together.
 fn join(path: &mut [u8], stem: usize, name: &[u8]) -> usize
