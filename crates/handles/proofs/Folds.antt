@@ -47,14 +47,6 @@ pub holder-is : (M : Meaning) (b n room : ℕ) → boot_of M ≡ Ok b → 256 �
 holder-is closed b n room e l = let z : ◌≡◌ {A = ℕ} 0 1 = cc in absurd (omega arith)
 holder-is (holds t) b n room e l = cond-true (leb 256 room) _ _ (le-leb 256 room l)
 
-pub holder-short : (M : Meaning) (b n room : ℕ) → boot_of M ≡ Ok b → room < 256 → holder_in M n room ≡ Err Short
-holder-short closed b n room e l = let z : ◌≡◌ {A = ℕ} 0 1 = cc in absurd (omega arith)
-holder-short (holds t) b n room e l = cond-false (leb 256 room) _ _ (lt-leb 256 room l)
-
-pub holder-closed : (M : Meaning) (n room : ℕ) (d : Refusal) → boot_of M ≡ Err d → holder_in M n room ≡ Err d
-holder-closed closed n room d e = let z : Closed ≡ d = cc in ap Err z
-holder-closed (holds t) n room d e = let z : ◌≡◌ {A = ℕ} 0 1 = cc in absurd (omega arith)
-
 pub open_not-closed : (M : Meaning) (b : ℕ) → boot_of M ≡ Ok b → M ≡ closed → ⊥
 open_not-closed closed b e m = let z : ◌≡◌ {A = ℕ} 0 1 = cc in omega arith
 open_not-closed (holds t) b e m = let z : ◌≡◌ {A = ℕ} 0 1 = cc in omega arith

@@ -1,3 +1,3 @@
-pub mod Buffers
 pub mod Growing
 pub mod Steps
+pub mod Trails

@@ -1,22 +1,49 @@
 -- One token of a blob after the other, as writes to a store. Assumes nothing.
-use Rattle.std.proofs.Common.{◌≡◌, ℕ, ◌^◌, ◌<◌, ◌≤◌, true, eqb, leb, List, [], ◌∷◌, ◌++◌, length, Some, Ok, Err, Result, sym, refl, ap, ◌∙◌, subst, append_assoc, append-nil, arith}
-use Rattle.std.proofs.lemmas.Bool.{and_parts, leb-true, true≢false}
+use Rattle.std.proofs.Common.{◌≡◌, ℕ, ◌^◌, ◌<◌, ◌≤◌, true, eqb, leb, List, [], ◌∷◌, ◌++◌, length, Some, Ok, Err, drop, Result, sym, refl, ap, ◌∙◌, subst, append_assoc, append-nil, length-append, arith}
+use Rattle.std.proofs.lemmas.Bool.{and_parts, cond-true, leb-true, le-leb, true≢false}
+use Rattle.std.proofs.lemmas.Grind.{common_steps}
 use Rattle.store.specs.declared.Refusal.{Refusal}
+use Rattle.store.specs.declared.Refusal.TheVariants.{Limit}
 use Rattle.names.specs.Names.{each, node_name}
-use Rattle.names.specs.Paths.{root, child, parent}
+use Rattle.names.specs.Paths.{root, stem, child, parent}
 use Rattle.names.proofs.NameLaws.{node_names}
 use Rattle.names.proofs.PathLaws.{child_parent, root_ends}
-use Rattle.store.specs.Calls.{Meaning, holds, add_node, set_property, changed, settled}
+use Rattle.store.specs.Calls.{Meaning, holds, add_node, set_property, changed}
 use Rattle.tree.specs.Entries.{Entry, listed, tree_of, well_listed}
 use Rattle.tree.specs.Places.{Bytes, node_at, property_at}
 use Rattle.tree.specs.Trees.{roomy, short_place}
 use Rattle.blob.specs.Tokens.{Tok, begin, property, end, nop, finish}
 use Rattle.reader.specs.Format.{Spelt, node_entry, property_entry}
-use Rattle.reader.specs.Handing.{named_item}
+use Rattle.reader.specs.Handing.{named_item, until}
 use Rattle.reader.specs.Reading.{entries, innermost, outer}
-use Rattle.loader.specs.Filling.{Chain, Going, Went, Feeds, BlobFeeds}
+use Rattle.loader.specs.Filling.{BlobFeeds, Loads}
 use Rattle.loader.specs.Loading.{root_tree, grow}
+use Rattle.loader.specs.Writing.{answered, written, onward, then_run, run}
 use Rattle.loader.proofs.Growing.{grown, Ready, ready, node-granted, property-granted, grow_last, root-stays}
+
+-- each path's parent is the next one, and the last is the root's
+abbrev pub Chain : List Bytes → Type 0
+Chain [] = Unit {0}
+Chain (p ∷ []) = p ≡ root
+Chain (p ∷ (q ∷ qs)) = (parent p ≡ q) × Chain (q ∷ qs)
+
+-- the entries of ls are written, those of xs are to come; the open nodes have these paths
+pub record Going (xs : Spelt) (path : Bytes) (m : Meaning) (boot : ℕ) (es : List Entry) : Type 0 where
+  pub ls : List Entry
+  pub paths : List Bytes
+  pub split : es ≡ ls ++ entries paths xs
+  pub tree : m ≡ holds (grow (root_tree boot) ls)
+  pub named : each named_item xs ≡ true
+  pub here : innermost paths ≡ path
+  pub chain : Chain paths
+
+-- tokens behind the root's beginning, whose entries come in a good order behind the root's and are within the limits
+pub record Feeds (xs : Spelt) (boot : ℕ) (first : Entry) (es : List Entry) : Type 0 where
+  pub lists : entries (root ∷ []) xs ≡ es
+  pub named : each named_item xs ≡ true
+  pub good : well_listed (first ∷ es) ≡ true
+  pub room : roomy (listed (first ∷ es)) ≡ true
+  pub low : boot < 2 ^ 32
 
 module _ (boot : ℕ) (first : Entry) (es : List Entry) (good : well_listed (first ∷ es) ≡ true) (room : roomy (listed (first ∷ es)) ≡ true) (low : boot < 2 ^ 32) where
   -- there is one root, and the next entry is one that the store takes
@@ -141,7 +168,89 @@ behind-root (p, end) xs boot es f = absurd (true≢false (sym f.named))
 behind-root (p, nop) xs boot es f = absurd (true≢false (sym f.named))
 behind-root (p, finish) xs boot es f = absurd (true≢false (sym f.named))
 
--- a write that the store grants
-pub went : (xs : Spelt) (r : Result (Unit {0}) Refusal) (p q : Bytes) (new made old is : Meaning) (boot : ℕ) (es : List Entry) → r ≡ Ok tt → q ≡ p → made ≡ new → is ≡ settled r made old → Going xs p new boot es → Went xs r q is boot es
-went xs (Ok u) p q new made old is boot es granted path same after going = subst (λ z. Going xs z is boot es) (sym path) (subst (λ z. Going xs p z boot es) (sym (after ∙ same)) going)
-went xs (Err e) p q new made old is boot es granted path same after going = let z : ◌≡◌ {A = ℕ} 0 1 = cc in absurd (omega arith)
+-- what is handed out goes up to the end token of the block
+abbrev pub Unfinished : Spelt → Type 0
+Unfinished [] = Unit {0}
+Unfinished ((p, begin name) ∷ xs) = Unfinished xs
+Unfinished ((p, property name value) ∷ xs) = Unfinished xs
+Unfinished ((p, end) ∷ xs) = Unfinished xs
+Unfinished ((p, nop) ∷ xs) = Unfinished xs
+Unfinished ((p, finish) ∷ xs) = ⊥
+
+pub until_unfinished : (xs : Spelt) → Unfinished (until xs)
+unfolding until
+until_unfinished [] = tt
+until_unfinished ((p, begin name) ∷ xs) = until_unfinished xs
+until_unfinished ((p, property name value) ∷ xs) = until_unfinished xs
+until_unfinished ((p, end) ∷ xs) = until_unfinished xs
+until_unfinished ((p, nop) ∷ xs) = until_unfinished xs
+until_unfinished ((p, finish) ∷ xs) = tt
+
+unfinished_on : (x : ℕ × Tok) (xs : Spelt) → Unfinished (x ∷ xs) → Unfinished xs
+unfinished_on (p, begin name) xs u = u
+unfinished_on (p, property name value) xs u = u
+unfinished_on (p, end) xs u = u
+unfinished_on (p, nop) xs u = u
+unfinished_on (p, finish) xs u = absurd u
+
+-- a skipped token
+skips : (at : ℕ) (xs : Spelt) (path : Bytes) (m : Meaning) (boot : ℕ) (es : List Entry) → Going ((at, nop) ∷ xs) path m boot es → Going xs path m boot es
+unfolding entries
+skips at xs path m boot es g = record { ls = g.ls; paths = g.paths; split = g.split; tree = g.tree; named = g.named; here = g.here; chain = g.chain }
+
+some_child : (p n : Bytes) → 0 < length (child p n)
+some_child p n = omega (arith, length-append (stem p) (47 ∷ n))
+
+some_parent : (p : Bytes) → 0 < length (parent p)
+unfolding parent
+some_parent p = grind (arith, common_steps)
+
+grown_none : (boot : ℕ) → holds (root_tree boot) ≡ holds (grow (root_tree boot) [])
+unfolding grow
+grown_none boot = refl
+
+-- where the store goes on towards the tree of a blob, the writes that are to come lead there
+pub run_on : (boot : ℕ) (first : Entry) (es : List Entry) → well_listed (first ∷ es) ≡ true → roomy (listed (first ∷ es)) ≡ true → boot < 2 ^ 32 → (xs : Spelt) (path : Bytes) (m : Meaning) → Unfinished xs → 0 < length path → Going xs path m boot es → run xs path m ≡ (Ok tt, holds (tree_of boot (first ∷ es)))
+unfolding run
+run_on boot first es good room low [] path m u long g = ap (λ z. (Ok tt, z)) (finished boot first es good room low path m g)
+run_on boot first es good room low ((at, begin name) ∷ xs) path m u long g =
+    let e = enters boot first es good room low at name xs path m g long in
+    let granted : answered (at, begin name) path m ≡ Ok tt = cond-true (leb (length (child path name)) 255) (add_node m (child path name)) (Err Limit) (le-leb (length (child path name)) 255 e.short) ∙ e.granted in
+    ap (λ r. then_run r (run xs (child path name) (changed m (node_at (child path name)) (Some []))) m) granted
+    ∙ run_on boot first es good room low xs (child path name) (changed m (node_at (child path name)) (Some [])) u (some_child path name) e.going
+run_on boot first es good room low ((at, property name value) ∷ xs) path m u long g =
+    let e = sets boot first es good room low at name value xs path m g in
+    ap (λ r. then_run r (run xs path (changed m (property_at path name) (Some value))) m) e.granted
+    ∙ run_on boot first es good room low xs path (changed m (property_at path name) (Some value)) u long e.going
+run_on boot first es good room low ((at, end) ∷ xs) path m u long g =
+    run_on boot first es good room low xs (parent path) m u (some_parent path) (leaves at xs path m boot es g)
+run_on boot first es good room low ((at, nop) ∷ xs) path m u long g =
+    run_on boot first es good room low xs path m u long (skips at xs path m boot es g)
+run_on boot first es good room low ((at, finish) ∷ xs) path m u long g = absurd u
+
+-- one write more, or the refusal that ends them
+pub run_more : (x : ℕ × Tok) (xs : Spelt) (p q : Bytes) (m n : Meaning) → Ok tt ≡ answered x p m → q ≡ onward x p → n ≡ written x p m → run xs q n ≡ run (x ∷ xs) p m
+unfolding run
+run_more x xs p q m n a b d = (λ i. run xs (b i) (d i)) ∙ ap (λ r. then_run r (run xs (onward x p) (written x p m)) m) a
+
+pub run_stop : (x : ℕ × Tok) (xs : Spelt) (p : Bytes) (m n : Meaning) (e : Refusal) → Err e ≡ answered x p m → n ≡ m → ◌≡◌ {A = Result (Unit {0}) Refusal × Meaning} (Err e, n) (run (x ∷ xs) p m)
+unfolding run
+run_stop x xs p m n e a b = ap (λ z. (Err e, z)) b ∙ ap (λ r. then_run r (run xs (onward x p) (written x p m)) m) a
+
+pub run_none : (xs : Spelt) (p : Bytes) (m : Meaning) → xs ≡ [] → ◌≡◌ {A = Result (Unit {0}) Refusal × Meaning} (Ok tt, m) (run xs p m)
+unfolding run
+run_none xs p m e = ap (λ z. run z p m) (sym e)
+
+-- a store that held the root alone holds a blob's tree after the writes behind the root's beginning
+pub run_loads : (xs : Spelt) (m is : Meaning) (r : Result (Unit {0}) Refusal) → ◌≡◌ {A = Result (Unit {0}) Refusal × Meaning} (r, is) (run (drop 1 (until xs)) root m) → Loads (until xs) m r is
+run_loads xs m is r e boot es f h =
+    let l = e ∙ go (until xs) (until_unfinished xs) f in
+    (ap (λ z. z.0) l, ap (λ z. z.1) l)
+  where
+    go : (ys : Spelt) → Unfinished ys → BlobFeeds ys boot es → run (drop 1 ys) root m ≡ (Ok tt, holds (tree_of boot es))
+    go [] u f = absurd (true≢false (sym f.named))
+    go (y ∷ ys) u f =
+        let b = behind-root y ys boot es f in
+        let g : Going ys root m boot b.rest = record { ls = []; paths = root ∷ []; split = sym b.feeds.lists; tree = h ∙ grown_none boot; named = b.feeds.named; here = refl; chain = refl } in
+        run_on boot b.first b.rest b.feeds.good b.feeds.room b.feeds.low ys root m (unfinished_on y ys u) (omega arith) g
+        ∙ ap (λ z. (Ok tt, holds (tree_of boot z))) (sym b.is)

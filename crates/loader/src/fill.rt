@@ -1,7 +1,10 @@
 // One write for each token.
-ghost use Rattle.loader.specs.Filling.{Fills, Loads, Writes};
-ghost use Rattle.loader.specs.Trails.{path_on, Short};
+ghost use Rattle.std.specs.Prelude.{◌≡◌, drop, OnOk};
+ghost use Rattle.loader.specs.Filling.{Loads};
+ghost use Rattle.loader.specs.Writing.{answered, written, onward, run};
+ghost use Rattle.names.specs.Paths.{root};
 ghost use Rattle.reader.specs.Handing.{ahead, item_of};
+ghost use Rattle.store.specs.Calls.{settled};
 
 use crate::trail::Trail;
 use reader::cursor::Tokens;
@@ -10,15 +13,13 @@ use store::{Refusal, Store};
 
 // Writes one item in the open node at the trail's path, and goes on to a node that begins or back from one that ends.
 fn write_item<S: Store>(store: &mut S, trail: &mut Trail, item: Item<'_>) -> Result<(), Refusal>
-    requires { Short trail.old }
-    ensures short { Short trail.new }
-    ensures writes { Writes (item_of item.entry) (path_on trail.old) (S.Readable.meaning store.old) result (path_on trail.new) (S.Readable.meaning store.new) }
+    ensures answer { result ≡ answered (item_of item.entry) trail.old (S.Readable.meaning store.old) }
+    ensures after { S.Readable.meaning store.new ≡ settled result (written (item_of item.entry) trail.old (S.Readable.meaning store.old)) (S.Readable.meaning store.old) }
+    ensures path { OnOk result (trail.new ≡ onward (item_of item.entry) trail.old) }
 {
     match item {
         Item::Begin { at: _, name } => {
-            if !trail.enter(name) {
-                return Err(Refusal::Limit);
-            }
+            trail.enter(name)?;
             store.add_node(trail.path())
         }
         Item::Property { at: _, name, value } => { store.set_property(trail.path(), name, value) }
@@ -31,18 +32,20 @@ fn write_item<S: Store>(store: &mut S, trail: &mut Trail, item: Item<'_>) -> Res
 
 // Writes what is handed out behind the root's beginning.
 fn fill_rest<S: Store>(store: &mut S, tokens: &mut Tokens<'_>) -> Result<(), Refusal>
-    ensures { Fills (ahead tokens.old.blob.bytes.now tokens.old.blob.layout tokens.old.next) (S.Readable.meaning store.old) result (S.Readable.meaning store.new) }
+    ensures { (result, S.Readable.meaning store.new) ≡ run (ahead tokens.old.blob.bytes.now tokens.old.blob.layout tokens.old.next) root (S.Readable.meaning store.old) }
 {
     let mut trail = Trail::new();
-    while let Some(item) = tokens.advance() {
+    for item in tokens {
         write_item(store, &mut trail, item)?;
     }
     Ok(())
 }
 
-// Fills a store that holds the root alone with what the tokens of a blob list.
+// Fills a store that holds the root alone with what the tokens of a blob list. In any case its writes are theirs behind the
+// first, up to one that is refused, whose refusal it answers.
 pub fn fill<S: Store>(store: &mut S, tokens: &mut Tokens<'_>) -> Result<(), Refusal>
-    ensures { Loads (ahead tokens.old.blob.bytes.now tokens.old.blob.layout tokens.old.next) (S.Readable.meaning store.old) result (S.Readable.meaning store.new) }
+    ensures loads { Loads (ahead tokens.old.blob.bytes.now tokens.old.blob.layout tokens.old.next) (S.Readable.meaning store.old) result (S.Readable.meaning store.new) }
+    ensures writes { (result, S.Readable.meaning store.new) ≡ run (drop 1 (ahead tokens.old.blob.bytes.now tokens.old.blob.layout tokens.old.next)) root (S.Readable.meaning store.old) }
 {
     match tokens.advance() {
         Some(_) => fill_rest(store, tokens),

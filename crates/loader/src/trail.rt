@@ -1,92 +1,70 @@
 // The path of the innermost open node.
-ghost use Rattle.std.specs.Prelude.{◌≡◌, ◌+◌, ◌≤◌, ◌∷◌, ◌++◌, length, take, drop, if◌then◌else◌, nat_le};
-ghost use Rattle.names.specs.Paths.{root, stem, child, parent};
-ghost use Rattle.loader.specs.Trails.{path_on, Short};
+ghost use Rattle.std.specs.Prelude.{◌≡◌, cond, nat_le, [], ◌∷◌, length};
+ghost use Rattle.names.specs.Paths.{root, child, parent};
+ghost use Rattle.store.specs.Calls.{tested};
+ghost use Rattle.store.specs.declared.Refusal.TheVariants.{Limit};
 
-use names::paths::leaf_start;
+use arrayvec::ArrayVec;
+use names::paths::{SLASH, parent_of};
+use std::marker::Model;
+use store::Refusal;
+use tree::counts::MAX_PATH;
 
-const LONGEST: usize = 255;
-
-const SLASH: u8 = b'/';
-
-#[derive(Clone, Copy)]
+// It begins with a slash.
+#[derive(Drop)]
 pub struct Trail {
-    pub bytes: [u8; 256],
-    pub len: usize,
+    path: ArrayVec<u8, MAX_PATH>,
 }
 
-// Writes a slash and a name at `base`.
-fn extend(buf: &mut [u8], base: usize, name: &[u8])
-    requires { base + 1 + length name.now ≤ length buf.old }
-    ensures { buf.new ≡ take base buf.old ++ (47 ∷ (name.now ++ drop (base + 1 + length name.now) buf.old)) }
-{
-    buf[base] = SLASH;
-    let from = base + 1;
-    let to = from + name.len();
-    buf[from..to].copy_from_slice(name);
+impl Model for Trail {
+    ghost use Rattle.std.specs.Prelude.{◌≡◌, ℕ, List, slice_index_or};
+
+    ghost Value = { List ℕ };
+
+    ghost view = { λ t. t.path.items };
+
+    ghost invariant = { λ t. slice_index_or t.path.items 0 0 ≡ 47 };
 }
 
 impl Trail {
     // At the root.
     pub(crate) fn new() -> Trail
-        ensures path { path_on result ≡ root }
-        ensures short { Short result }
+        ensures { result ≡ root }
     {
-        Trail {
-            bytes: [SLASH; 256],
-            len: 1,
-        }
-    }
-
-    // How many bytes of the path stand before a further slash.
-    fn stem_len(&self) -> usize
-        requires { Short self.now }
-        ensures within { result ≤ 255 }
-        ensures stem { take result self.now.bytes ≡ stem (path_on self.now) }
-        ensures length { result ≡ length (stem (path_on self.now)) }
-        ensures room { length self.now.bytes ≡ 256 }
-    {
-        let n = self.len;
-        if n == 1 { 0 } else { n }
+        let mut path = ArrayVec::new();
+        path.push(SLASH);
+        Trail { path }
     }
 
     // Goes on to a child, unless its path is too long.
-    pub(crate) fn enter(&mut self, name: &[u8]) -> bool
-        requires { Short self.old }
-        ensures value { result ≡ nat_le (length (child (path_on self.old) name.now)) 255 }
-        ensures path { path_on self.new ≡ (if result then child (path_on self.old) name.now else path_on self.old) }
-        ensures short { Short self.new }
+    pub(crate) fn enter(&mut self, name: &[u8]) -> Result<(), Refusal>
+        ensures answer { result ≡ tested ((nat_le (length (child self.old name.now)) 255, Limit) ∷ []) tt }
+        ensures path { self.new ≡ cond (nat_le (length (child self.old name.now)) 255) (child self.old name.now) self.old }
     {
-        let from = self.stem_len();
-        if name.len() > LONGEST || from + 1 + name.len() > LONGEST {
-            return false;
+        let len = self.path.len();
+        let stem = if len == 1 { 0 } else { len };
+        if name.len() >= MAX_PATH - stem {
+            return Err(Refusal::Limit);
         }
-        extend(&mut self.bytes, from, name);
-        self.len = from + 1 + name.len();
-        true
+        self.path.truncate(stem);
+        self.path.push(SLASH);
+        self.path
+            .try_extend_from_slice(name)
+            .or(Err(Refusal::Limit))
     }
 
     // Goes back to the parent; from the root nowhere.
     pub(crate) fn leave(&mut self)
-        requires { Short self.old }
-        ensures path { path_on self.new ≡ parent (path_on self.old) }
-        ensures short { Short self.new }
+        ensures { self.new ≡ parent self.old }
     {
-        let n = self.len;
-        let start = leaf_start(&self.bytes[0..n]);
-        if start <= 1 {
-            self.len = 1;
-        } else {
-            self.len = start - 1;
-        }
+        let len = parent_of(&self.path).len();
+        self.path.truncate(len);
     }
 
     // The path itself.
     pub(crate) fn path(&self) -> &[u8]
-        requires { Short self.now }
-        ensures { result.now ≡ path_on self.now }
+        ensures { result.now ≡ self.now }
     {
-        let n = self.len;
-        &self.bytes[0..n]
+        &self.path
     }
 }

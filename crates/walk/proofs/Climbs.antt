@@ -1,7 +1,6 @@
 -- The turns of a walk. Assumes nothing.
 use Rattle.std.proofs.Common.{◌≡◌, ℕ, ◌+◌, ◌-◌, ◌<◌, ◌≤◌, Bool, true, false, cond, ◌||◌, eqb, leb, ◌⊎◌, [], ◌∷◌, ◌++◌, length, take, drop, is_some, Some, None, Ok, Err, Option, Result, sym, refl, ap, ◌∙◌, subst, inl, inr, ⊎_elim, append_assoc, arith, length-append}
-use Rattle.std.proofs.lemmas.List.{take_at, length-take-le, length-drop, take-take, nil_from_length}
-use Rattle.std.proofs.lemmas.Slice.{between_is}
+use Rattle.std.proofs.lemmas.List.{take_at, take_all, length-take-le, take-take, nil_from_length}
 use Rattle.std.proofs.lemmas.Bool.{cases_Bool, and_from, or_right, or_left, eq-eqb, cond-true, leb-true, leb-false, le-leb, and_parts}
 use Rattle.names.specs.Names.{node_name}
 use Rattle.names.specs.Paths.{root, path_text, stem, child, leaf, parent}
@@ -12,7 +11,8 @@ use Rattle.tree.specs.Trees.{Tree, Sound, look}
 use Rattle.store.specs.Calls.{Meaning, closed, holds, Good, tested, there, length_of, named, over, next_child, child_on, names, least_after}
 use Rattle.store.specs.declared.Refusal.{Refusal}
 use Rattle.store.specs.declared.Refusal.TheVariants.{BadName, Absent, Short}
-use Rattle.walk.specs.Steps.{Stands}
+use Rattle.walk.specs.Steps.{Stands, Next}
+use Rattle.walk.specs.declared.walk.Child.{Child}
 use Rattle.walk.specs.Walks.{beyond, first_path, next_node}
 use Rattle.walk.proofs.Ancestors.{some_byte}
 use Rattle.walk.proofs.Marks.{key, end_of, Asked, end-key}
@@ -103,20 +103,19 @@ parent-front r e h =
     (ap (take (length (parent r))) k ∙ take_at (parent r) (47 ∷ leaf r) (length (parent r)) refl, omega arith))
     (by-root (parent r))
 
-pub stem-front : (path : Bytes) (len : ℕ) → path_text (take len path) ≡ true → len ≤ length path → take (cond (leb len 1) 0 len) path ≡ stem (take len path)
-stem-front path len h l =
-    let k = length-take-le len path l in
-    let b = some_byte (take len path) h in
+pub stem-front : (r : Bytes) → path_text r ≡ true → take (cond (leb (length r) 1) 0 (length r)) r ≡ stem r
+stem-front r h =
+    let b = some_byte r h in
     ⊎_elim
     (λ t.
-    let e = leb-true len 1 t in
-    let p = path_starts (take len path) h in
-    let top : take len path ≡ root = p.1 ∙ ap (λ x. 47 ∷ x) (nil_from_length p.0 (let z = ap length p.1 in omega arith)) in
-    ap (λ z. take (cond z 0 len) path) t ∙ sym (ap stem top ∙ stem-root))
+    let e = leb-true (length r) 1 t in
+    let p = path_starts r h in
+    let top : r ≡ root = p.1 ∙ ap (λ x. 47 ∷ x) (nil_from_length p.0 (let z = ap length p.1 in omega arith)) in
+    ap (λ z. take (cond z 0 (length r)) r) t ∙ sym (ap stem top ∙ stem-root))
     (λ f.
-    let e = leb-false len 1 f in
-    ap (λ z. take (cond z 0 len) path) f ∙ ⊎_elim (λ z. let y = ap length z in absurd (omega arith)) (λ z. sym z.1) (by-root (take len path)))
-    (cases_Bool (leb len 1))
+    let e = leb-false (length r) 1 f in
+    ap (λ z. take (cond z 0 (length r)) r) f ∙ take_all (length r) r (omega arith) ∙ ⊎_elim (λ z. let y = ap length z in absurd (omega arith)) (λ z. sym z.1) (by-root r))
+    (cases_Bool (leb (length r) 1))
 
 -- what a question for a name answers, by its length and its buffer
 pub by-some : (X : Result (Option Bytes) Refusal) (k : ℕ) (out : Bytes) → Ok (Some k) ≡ length_of X → (b : Bytes) × (X ≡ Ok (Some b)) × (length b ≡ k) × (take k (named X out) ≡ b)
@@ -141,46 +140,28 @@ text_standing : (M : Meaning) (p r a : Bytes) → Good M → Standing M p r a �
 text_standing closed p r a g h = absurd h
 text_standing (holds t) p r a g h = g.named (node_at r) [] h.0
 
-module _ (M : Meaning) (was path after : Bytes) (at len n : ℕ) (g : Good M) (stood : Stands M (take at was)) (roomy : 256 ≤ length was) (same : path ≡ was) (l : len ≤ length path)
-    (h : Standing M (take at path) (take len path) (take n after)) (r : Result (Option ℕ) Refusal) (said : r ≡ length_of (next_child M (take (len - 0) path) (take (n - 0) after) 63)) where
-  asks : next_child M (take (len - 0) path) (take (n - 0) after) 63 ≡ next_child M (take len path) (take n after) 63
-  asks i = next_child M (less_none len path i) (less_none n after i) 63
+-- one turn of the climb from the node at p: r is open, and the children up to a are behind
+module _ (M : Meaning) (p r a : Bytes) (g : Good M) (st : Stands M p) (h : Standing M p r a) (begins : take (length r) p ≡ r) (x : Result (Option ℕ) Refusal) (said : x ≡ length_of (next_child M r a 63)) where
+  pub turn_refused : (e : Refusal) → x ≡ Err e → ⊥
+  turn_refused e saw = never-refused M p r a e g h (by_err (next_child M r a 63) e (sym saw ∙ said))
 
-  told : r ≡ length_of (next_child M (take len path) (take n after) 63)
-  told = said ∙ ap length_of asks
-
-  st : Stands M (take at path)
-  st = subst (λ x. Stands M (take at x)) (sym same) stood
-
-  room : 256 ≤ length path
-  room = subst (λ x. 256 ≤ length x) (sym same) roomy
-
-  back : next_node M (take at was) (length was) ≡ next_node M (take at path) (length path)
-  back i = next_node M (take at (sym same i)) (length (sym same i))
-
-  pub turn_refused : (e : Refusal) → r ≡ Err e → ⊥
-  turn_refused e saw = never-refused M (take at path) (take len path) (take n after) e g h (by_err (next_child M (take len path) (take n after) 63) e (sym saw ∙ told))
-
-  pub turn_end : r ≡ Ok None → len ≤ 1 → next_node M (take at was) (length was) ≡ Ok None
-  turn_end saw e =
-      back ∙ found-end M (take at path) (take len path) (take n after) (length path) g st room h (by-none (next_child M (take len path) (take n after) 63) (sym saw ∙ told)) (let k = length-take-le len path l in omega arith)
+  pub turn_end : x ≡ Ok None → length r ≤ 1 → next_node M p 256 ≡ Ok None
+  turn_end saw e = found-end M p r a 256 g st (omega arith) h (by-none (next_child M r a 63) (sym saw ∙ said)) e
 
   pub record Up : Type 0 where
-    pub short : length (leaf (take len path)) ≤ 63
-    pub less : length (parent (take len path)) < len
-    pub stands : Standing M (take at path) (take (length (parent (take len path))) path) (leaf (take len path))
+    pub less : length (parent r) < length r
+    pub stands : Standing M p (parent r) (leaf r)
+    pub front : take (length (parent r)) p ≡ parent r
 
-  pub turn_up : r ≡ Ok None → 1 < len → Up
+  pub turn_up : x ≡ Ok None → 1 < length r → Up
   turn_up saw e =
-      let k = length-take-le len path l in
-      let u = found_up M (take at path) (take len path) (take n after) g h (by-none (next_child M (take len path) (take n after) 63) (sym saw ∙ told)) (omega arith) in
-      let f = parent-front (take len path) u.1 u.3 in
-      let c = ap length u.1 ∙ k in
-      let low : length (parent (take len path)) < len = parent_less (take len path) len u.1 k e in
+      let u = found_up M p r a g h (by-none (next_child M r a 63) (sym saw ∙ said)) e in
+      let f = parent-front r u.1 u.3 in
+      let less : length (parent r) < length r = parent_less r (length r) u.1 refl e in
       record {
-        short = u.2;
-        less = low;
-        stands = subst (λ x. Standing M (take at path) x (leaf (take len path))) (sym (sym (take-take (length (parent (take len path))) len path (omega arith)) ∙ f.0)) u.0;
+        less = less;
+        stands = u.0;
+        front = sym (ap (take (length (parent r))) (sym begins) ∙ take-take (length (parent r)) (length r) p (omega arith)) ∙ f.0;
       }
     where
       parent_less : (q : Bytes) (len : ℕ) → child (parent q) (leaf q) ≡ q → length q ≡ len → 1 < len → length (parent q) < len
@@ -190,60 +171,29 @@ module _ (M : Meaning) (was path after : Bytes) (at len n : ℕ) (g : Good M) (s
           (λ z. let y = ap length (sym e ∙ ap (λ x. x ++ (47 ∷ leaf q)) z.1) ∙ length-append (parent q) (47 ∷ leaf q) in omega arith)
           (by-root (parent q))
 
-  -- the last name as the code has it
-  pub turn_leaf : (start : ℕ) → start ≤ length (take (len - 0) path) → drop start (take (len - 0) path) ≡ leaf (take (len - 0) path)
-      → (len - start ≡ length (leaf (take len path))) × (take (len - start) (drop start path) ≡ leaf (take len path))
-  turn_leaf start w e =
-      let k = length-take-le len path l in
-      let d : drop start (take len path) ≡ leaf (take len path) = ap (drop start) (sym (less_none len path)) ∙ e ∙ ap leaf (less_none len path) in
-      (sym (sym (ap length d) ∙ length-drop start (take len path) ∙ ap (λ x. x - start) k), between_is path start len ∙ d)
-
-  pub record Joins (m : ℕ) (last : Bytes) : Type 0 where
-    pub short : m ≤ 63
-    pub fits : cond (leb len 1) 0 len + 1 + m ≤ length path
-    pub size : length (take m last) ≡ m
-    pub is : next_node M (take at was) (length was) ≡ Ok (Some (take (cond (leb len 1) 0 len) path ++ (47 ∷ take m last)))
-
-  pub turn_some : (m : ℕ) (out last : Bytes) → r ≡ Ok (Some m) → last ≡ named (next_child M (take (len - 0) path) (take (n - 0) after) 63) out → Joins m last
-  turn_some m out last saw buf =
-      let b = by-some (next_child M (take len path) (take n after) 63) m out (sym saw ∙ told) in
-      let name : take m last ≡ b.0 = ap (take m) (buf ∙ ap (λ x. named x out) asks) ∙ b.3 in
-      let f = found-child M (take at path) (take len path) (take n after) b.0 (length path) g st room h b.1 in
-      let sf = stem-front path len (text_standing M (take at path) (take len path) (take n after) g h) l in
-      let low : cond (leb len 1) 0 len ≤ len = cond_low (leb len 1) len in
-      let fl = length-take-le (cond (leb len 1) 0 len) path (omega arith) in
-      let cl : length (stem (take len path) ++ (47 ∷ b.0)) ≡ length (stem (take len path)) + length (47 ∷ b.0) = length-append (stem (take len path)) (47 ∷ b.0) in
+  pub turn_some : (m : ℕ) (out : Bytes) (c : Child) → x ≡ Ok (Some m) → c.stem ≡ cond (leb (length r) 1) 0 (length r) → c.name.items ≡ take m (named (next_child M r a 63) out) → Next M p c
+  turn_some m out c saw sm nm =
+      let b = by-some (next_child M r a 63) m out (sym saw ∙ said) in
+      let name : c.name.items ≡ b.0 = nm ∙ b.3 in
+      let f = found-child M p r a b.0 256 g st (omega arith) h b.1 in
+      let low : cond (leb (length r) 1) 0 (length r) ≤ length r = cond_low (leb (length r) 1) (length r) in
+      let whole : length r ≤ length p = let z = ap length begins in let y = length-take-most (length r) p in omega arith in
+      let sf : take c.stem p ≡ stem r =
+      ap (λ k. take k p) sm ∙ sym (ap (take (cond (leb (length r) 1) 0 (length r))) (sym begins) ∙ take-take (cond (leb (length r) 1) 0 (length r)) (length r) p low) ∙ stem-front r (text_standing M p r a g h) in
+      let fl = length-take-le c.stem p (omega arith) in
       let sl = ap length sf in
-      let bl = b.2 in
-      let up : length (stem (take len path) ++ (47 ∷ b.0)) ≤ 255 = f.1 in
-      let rm = room in
+      let bl = ap length name in
+      let cl : length (stem r ++ (47 ∷ b.0)) ≡ length (stem r) + length (47 ∷ b.0) = length-append (stem r) (47 ∷ b.0) in
+      let up : length (stem r ++ (47 ∷ b.0)) ≤ 255 = f.1 in
       record {
-        short = named_short M (take at path) (take len path) (take n after) b.0 m g h b.1 bl;
-        fits = omega arith;
-        size = ap length name ∙ bl;
-        is = back ∙ f.0 ∙ (λ i. Ok (Some (sym sf i ++ (47 ∷ sym name i))));
+        is = f.0 ∙ (λ i. Ok (Some (sym sf i ++ (47 ∷ sym name i))));
+        within = omega arith;
+        short = omega arith;
       }
     where
       cond_low : (b : Bool) (len : ℕ) → cond b 0 len ≤ len
       cond_low true len = omega arith
       cond_low false len = omega arith
 
-      named_short : (M : Meaning) (p r a x : Bytes) (m : ℕ) → Good M → Standing M p r a → next_child M r a 63 ≡ Ok (Some x) → length x ≡ m → m ≤ 63
-      named_short closed p r a x m g h e k = absurd h
-      named_short (holds t) p r a x m g h e k =
-          let y : least_after a (names (child_on r) t.places) ≡ Some x = let z = sym (child-asked t g r a h.0 h.1) ∙ e in cc in
-          let f = on_some t g r a h.0 h.1 x y in
-          let w = (node_names x f.good).2 in
-          omega arith
-
--- what a name's buffer begins with once it is filled
-pub front-filled : (ys rest : Bytes) (n : ℕ) (name : Bytes) → ys ≡ name → n ≡ length name → take n (ys ++ rest) ≡ name
-front-filled ys rest n name e h = ap (λ x. take n (x ++ rest)) e ∙ take_at name rest n (sym h)
-
--- the buffer of a path where a child was joined to it
-pub joined-over : (path name last : Bytes) (stem : ℕ) → last ≡ take stem path ++ (47 ∷ (name ++ drop (stem + 1 + length name) path)) → stem + 1 + length name ≤ length path → last ≡ over (take stem path ++ (47 ∷ name)) path
-joined-over path name last stem e l =
-    let a = length-append (take stem path) (47 ∷ name) in
-    let b = length-take-le stem path (omega arith) in
-    let n : stem + 1 + length name ≡ length (take stem path ++ (47 ∷ name)) = omega arith in
-    e ∙ ap (λ k. take stem path ++ (47 ∷ (name ++ drop k path))) n ∙ sym (append_assoc (take stem path) (47 ∷ name) (drop (length (take stem path ++ (47 ∷ name))) path))
+      length-take-most : (n : ℕ) (xs : Bytes) → length (take n xs) ≤ length xs
+      length-take-most n xs = omega (arith, lib.ListN.length-take n xs)

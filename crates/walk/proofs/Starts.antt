@@ -18,14 +18,6 @@ pub first_ok : (M : Meaning) (b room : ℕ) → Good M → boot_of M ≡ Ok b �
 first_ok closed b room g e l = let z : ◌≡◌ {A = ℕ} 0 1 = cc in absurd (omega arith)
 first_ok (holds t) b room g e l = three_pass true true (leb 256 room) BadName Absent Short _ refl refl (le-leb 256 room l) ∙ ap Ok (on_empty t g)
 
-pub first_short : (M : Meaning) (b room : ℕ) → boot_of M ≡ Ok b → room < 256 → next_node M [] room ≡ Err Short
-first_short closed b room e l = let z : ◌≡◌ {A = ℕ} 0 1 = cc in absurd (omega arith)
-first_short (holds t) b room e l = cond-false (leb 256 room) _ _ (lt-leb 256 room l)
-
-pub first-closed : (M : Meaning) (d : Refusal) (p : Bytes) (room : ℕ) → boot_of M ≡ Err d → next_node M p room ≡ Err d
-first-closed closed d p room e = let z : Closed ≡ d = cc in ap Err z
-first-closed (holds t) d p room e = let z : ◌≡◌ {A = ℕ} 0 1 = cc in absurd (omega arith)
-
 pub root_over : (path : Bytes) → 256 ≤ length path → set path 0 47 ≡ over root path
 root_over path l = set_split path 0 47 (omega arith)
 

@@ -22,9 +22,6 @@ use Rattle.walk.proofs.Least.{least-in, least-least, Ahead, names_in, names-out,
 use Rattle.walk.proofs.Marks.{mark, key, end_of, Asked, mark-plain, mark-none, key-child, end-key}
 use Rattle.walk.proofs.Orders.{AtMost, less_greater, equal_less, never_less, most-not-less, root-most}
 
-pub equal_greater : Equal ≡ Greater → ⊥
-equal_greater e = true≢false (ap is_eq e)
-
 -- the empty text and the root are not behind what begins with a slash
 root-front : (rest : Bytes) → AtMost root (47 ∷ rest)
 root-front [] = inl refl

@@ -1,28 +1,26 @@
 // The nodes of a readable tree in document order, by questions alone.
 ghost use Rattle.std.specs.Prelude.{◌≡◌, ◌+◌, ◌<◌, ◌≤◌, [], ◌∷◌, ◌++◌, length, take, drop, if◌then◌else◌, nat_le};
-ghost use Rattle.names.specs.Paths.{parent};
+ghost use Rattle.names.specs.Paths.{leaf};
 ghost use Rattle.store.specs.Calls.{length_of, named};
 ghost use Rattle.walk.specs.Runs.{TreeRuns};
-ghost use Rattle.walk.specs.Steps.{Stands};
+ghost use Rattle.walk.specs.Steps.{Stands, Finds};
 ghost use Rattle.walk.specs.Walks.{next_node};
 
-use names::paths::{leaf_start, parent_of};
+use arrayvec::ArrayVec;
+use names::paths::{SLASH, leaf_start, parent_of};
 use store::{Readable, Refusal};
+use tree::counts::MAX_PATH;
 
 // The longest path, and one byte more.
-pub const PATH_ROOM: usize = 256;
+pub const PATH_ROOM: usize = MAX_PATH + 1;
 
 // The longest name.
 pub const NAME_ROOM: usize = 63;
 
-const SLASH: u8 = b'/';
-
 // The places of a tree come in document order: below a node its properties, then its children with all below them.
-pub fn order_stands() -> u8
+pub fn order_stands()
     ensures { TreeRuns }
-{
-    0
-}
+{}
 
 // Puts a slash and a name behind the first `stem` bytes, and answers how long they are together.
 fn join(path: &mut [u8], stem: usize, name: &[u8]) -> usize
@@ -38,10 +36,47 @@ fn join(path: &mut [u8], stem: usize, name: &[u8]) -> usize
 }
 
 // How many bytes of a path stand before a further slash: none of the root's.
-fn stem_len(len: usize) -> usize
-    ensures { result ≡ (if nat_le len 1 then 0 else len) }
+fn stem_len(path: &[u8]) -> usize
+    ensures { result ≡ (if nat_le (length path.now) 1 then 0 else length path.now) }
 {
-    if len <= 1 { 0 } else { len }
+    if path.len() <= 1 { 0 } else { path.len() }
+}
+
+// The last name of a path; the root's is empty.
+fn leaf_of(path: &[u8]) -> &[u8]
+    ensures { result.now ≡ leaf path.now }
+{
+    &path[leaf_start(path)..]
+}
+
+// A child of a node around another: how much of that one's path its own begins with, and its name.
+#[derive(Drop)]
+struct Child {
+    stem: usize,
+    name: ArrayVec<u8, NAME_ROOM>,
+}
+
+// The next node behind a node that is there: its first child, else the next one of its parent, and so on.
+fn child_behind<R: Readable>(tree: &R, path: &[u8]) -> Result<Option<Child>, Refusal>
+    requires { Stands (R.Readable.meaning tree.now) path.now }
+    ensures { Finds (R.Readable.meaning tree.now) path.now result }
+{
+    let mut open = path;
+    let mut after: &[u8] = b"";
+    loop {
+        let mut name = [0u8; NAME_ROOM];
+        if let Some(n) = tree.next_child(open, after, &mut name)? {
+            let mut name = ArrayVec::from(name);
+            name.truncate(n);
+            let stem = stem_len(open);
+            return Ok(Some(Child { stem, name }));
+        }
+        if open.len() <= 1 {
+            return Ok(None);
+        }
+        after = leaf_of(open);
+        open = parent_of(open);
+    }
 }
 
 // The next node behind the node that the first `at` bytes name.
@@ -52,21 +87,9 @@ fn climb<R: Readable>(tree: &R, path: &mut [u8], at: usize) -> Result<Option<usi
     ensures answer { result ≡ length_of (next_node (R.Readable.meaning tree.now) (take at path.old) (length path.old)) }
     ensures buffer { path.new ≡ named (next_node (R.Readable.meaning tree.now) (take at path.old) (length path.old)) path.old }
 {
-    let mut len = at;
-    let mut after = [0u8; NAME_ROOM];
-    let mut n = 0;
-    loop {
-        let mut name = [0u8; NAME_ROOM];
-        if let Some(m) = tree.next_child(&path[0..len], &after[0..n], &mut name)? {
-            return Ok(Some(join(path, stem_len(len), &name[0..m])));
-        }
-        if len <= 1 {
-            return Ok(None);
-        }
-        let start = leaf_start(&path[0..len]);
-        n = len - start;
-        after[0..n].copy_from_slice(&path[start..len]);
-        len = parent_of(&path[0..len]).len();
+    match child_behind(tree, &path[..at])? {
+        Some(child) => Ok(Some(join(path, child.stem, &child.name))),
+        None => Ok(None),
     }
 }
 
@@ -83,7 +106,8 @@ fn first_node<R: Readable>(tree: &R, path: &mut [u8]) -> Result<Option<usize>, R
     Ok(Some(1))
 }
 
-// The node behind the one that the first `len` bytes name, in document order, written over it; the empty path starts.
+// The node behind the one that the first `len` bytes name, in document order, written over it; the empty path starts. The
+// caller lends the memory for the path, so its length stands beside it.
 pub fn next_node<R: Readable>(
     tree: &R,
     path: &mut [u8],

@@ -1,12 +1,15 @@
-use Rattle.std.proofs.Common.{sym, ap, ◌∙◌, subst}
-use Rattle.store.specs.Calls.{holds}
-use Rattle.tree.specs.Entries.{tree_of}
-use Rattle.loader.specs.Filling.{BlobFeeds}
-use Rattle.loader.proofs.Steps.{behind-root}
+use Rattle.std.proofs.Common.{◌≡◌, drop, sym, ap, ◌∙◌}
+use Rattle.names.specs.Paths.{root}
+use Rattle.loader.specs.Writing.{run}
+use Rattle.loader.proofs.Steps.{run_none, run_loads}
 use Rattle.loader.proofs.fill.fill.Goals as goal
 
 pub returns-in-Some : goal.returns-in-Some
-returns-in-Some g c = λ boot es f m.
-    let b = behind-root _ _ boot es (subst (λ xs. BlobFeeds xs boot es) c.in-Some.ensures.hands f) in
-    let r = c.fill_rest.ensures boot b.first b.rest b.feeds m in
-    (r.0, r.1 ∙ ap (λ z. holds (tree_of boot z)) (sym b.is))
+returns-in-Some g c =
+    let w = c.fill_rest.ensures ∙ ap (λ xs. run (drop 1 xs) root (g.S.Readable.meaning c.args.store.now)) (sym c.in-Some.ensures.hands) in
+    record { loads = run_loads _ _ _ _ w; writes = w }
+
+pub returns-in-None : goal.returns-in-None
+returns-in-None g c =
+    let w = run_none _ root (g.S.Readable.meaning c.args.store.now) (ap (drop 1) c.in-None.ensures.hands.0) in
+    record { loads = run_loads _ _ _ _ w; writes = w }

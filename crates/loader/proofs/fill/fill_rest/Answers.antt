@@ -1,31 +1,20 @@
-use Rattle.std.proofs.Common.{[], ◌∷◌, sym, refl, subst}
-use Rattle.names.specs.Paths.{root}
-use Rattle.loader.specs.Filling.{Going}
-use Rattle.loader.specs.Loading.{grow}
-use Rattle.loader.specs.Trails.{path_on}
-use Rattle.loader.proofs.Steps.{finished}
+use Rattle.std.proofs.Common.{◌≡◌, Err, sym, ap, ◌∙◌}
+use Rattle.std.proofs.lemmas.Result.{err_from_is_err_and}
+use Rattle.loader.specs.Writing.{run}
+use Rattle.loader.proofs.Steps.{run_more, run_stop, run_none}
 use Rattle.loader.proofs.fill.fill_rest.Goals as goal
 
-pub loop-item-init : goal.loop-item-init
-unfolding grow
-loop-item-init g c = (
-  c.new-trail.ensures.short,
-  λ boot first es f m.
-      record { ls = []; paths = root ∷ []; split = sym f.lists; tree = m; named = f.named; here = sym c.new-trail.ensures.path; chain = refl },
-)
+pub loop-item-preserved : goal.loop-item-preserved
+loop-item-preserved g c =
+    run_more _ _ _ _ _ _ c.in_ok-write_item.ensures.answer c.in_ok-write_item.ensures.path c.in_ok-write_item.ensures.after
+    ∙ ap (λ xs. run xs c.loop-item.trail (g.S.Readable.meaning c.loop-item.store)) (sym c.in-Some.ensures.steps.1) ∙ c.loop-item.invariant
 
 pub returns-in_err-write_item : goal.returns-in_err-write_item
-returns-in_err-write_item g c = λ boot first es f m.
-    let i = c.loop-item.invariant.1 boot first es f m in
-    let h = c.in-Some.ensures.hands in
-    absurd (c.in_err-write_item.ensures.writes boot first es _ f.good f.room f.low
-    (subst (λ xs. Going xs (path_on c.loop-item.trail) (g.S.Readable.meaning c.loop-item.store) boot es) h i))
+returns-in_err-write_item g c =
+    let p = err_from_is_err_and c.from_residual.result c.from_residual.ensures.1 in
+    (λ i. ((p.1 ∙ ap Err p.2) i, g.S.Readable.meaning c.write_item.new.store))
+    ∙ run_stop _ _ _ _ _ _ c.in_err-write_item.ensures.answer c.in_err-write_item.ensures.after
+    ∙ ap (λ xs. run xs c.loop-item.trail (g.S.Readable.meaning c.loop-item.store)) (sym c.in-Some.ensures.steps.1) ∙ c.loop-item.invariant
 
 pub returns : goal.returns
-returns g c = λ boot first es f m.
-    let i = c.loop-item.invariant.1 boot first es f m in
-    let h = c.in_default.ensures.hands in (
-      refl,
-      finished boot first es f.good f.room f.low (path_on c.loop-item.trail) (g.S.Readable.meaning c.loop-item.store)
-          (subst (λ xs. Going xs (path_on c.loop-item.trail) (g.S.Readable.meaning c.loop-item.store) boot es) h.0 i),
-    )
+returns g c = run_none _ _ _ c.in-None.ensures.steps.1.0 ∙ c.loop-item.invariant

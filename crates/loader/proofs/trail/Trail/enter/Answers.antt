@@ -1,31 +1,34 @@
-use Rattle.std.proofs.Common.{◌+◌, ◌<◌, ◌∷◌, ◌++◌, length, take, sym, refl, ap, ◌∙◌, arith}
-use Rattle.std.proofs.lemmas.Bool.{le-leb, lt-leb}
-use Rattle.names.specs.Paths.{child}
+use Rattle.std.proofs.Common.{◌≡◌, ◌+◌, ◌<◌, ◌≤◌, ◌∷◌, ◌++◌, leb, [], length, take, Ok, Err, refl, sym, ap, ◌∙◌, subst, inl, inr, append_assoc, arith}
+use Rattle.std.proofs.lemmas.Bool.{cond-true, cond-false, le-leb, lt-leb}
+use Rattle.store.specs.declared.Refusal.TheVariants.{Limit}
+use Rattle.names.specs.Paths.{child, stem}
 use Rattle.names.proofs.PathLaws.{child_length}
-use Rattle.loader.specs.Trails.{path_on}
-use Rattle.loader.proofs.Buffers.{took, first-kept}
+use Rattle.loader.proofs.Trails.{Stem, stem_front, extended}
 use Rattle.loader.proofs.trail.Trail.enter.Goals as goal
-use Rattle.loader.proofs.trail.Trail.enter.Goals.{then-name-gt-LONGEST-via-then-name-gt-LONGEST, then-name-gt-LONGEST-via-else-name-gt-LONGEST+then-from-name-gt-LONGEST}
+use Rattle.loader.proofs.trail.Trail.enter.Goals.{then-len-eq1, else-len-eq1}
 
-pub returns-then-name-gt-LONGEST : goal.returns-then-name-gt-LONGEST
-returns-then-name-gt-LONGEST c =
-    let l = child_length (path_on c.args.self.now) c.args.name.now in
-    let n = c.stem_len-from.ensures.length in
-    let long : 255 < length (child (path_on c.args.self.now) c.args.name.now) =
-    elim c.then-name-gt-LONGEST.branch [
-      | then-name-gt-LONGEST-via-then-name-gt-LONGEST w ↦ omega (arith, w.if-name-gt-LONGEST.true)
-      | then-name-gt-LONGEST-via-else-name-gt-LONGEST+then-from-name-gt-LONGEST w ↦ omega (arith, w.if-from-name-gt-LONGEST.true)
-    ] in
-    record { value = sym (lt-leb _ 255 long); path = refl; short = c.requires }
+pub returns-then-name-stem : goal.returns-then-name-stem
+returns-then-name-stem c =
+    let s : Stem c.self.inside.path.items c.if-len-eq1.stem =
+    stem_front c.self.inside.path.items c.if-len-eq1.stem c.self.invariant
+    (elim c.if-len-eq1.branch [ then-len-eq1 w ↦ inl (omega arith, w.stem-is) | else-len-eq1 w ↦ inr ((λ e. omega arith), w.stem-is ∙ c.len-len.ensures.value) ]) in
+    let l = child_length c.args.self.now c.args.name.now in
+    let k = sym s.long ∙ ap (λ p. length (stem p)) c.self.view_is in
+    let f = lt-leb (length (child c.args.self.now c.args.name.now)) 255 (omega arith) in
+    record { answer = sym (cond-false (leb (length (child c.args.self.now c.args.name.now)) 255) _ _ f); path = sym (cond-false (leb (length (child c.args.self.now c.args.name.now)) 255) _ _ f) }
 
 pub returns : goal.returns
 returns c =
-    let l = child_length (path_on c.args.self.now) c.args.name.now in
-    let n = c.stem_len-from.ensures.length in
-    let room = c.stem_len-from.ensures.room in
-    let is = c.extend.ensures in
+    let s : Stem c.self.inside.path.items c.if-len-eq1.stem =
+    stem_front c.self.inside.path.items c.if-len-eq1.stem c.self.invariant
+    (elim c.if-len-eq1.branch [ then-len-eq1 w ↦ inl (omega arith, w.stem-is) | else-len-eq1 w ↦ inr ((λ e. omega arith), w.stem-is ∙ c.len-len.ensures.value) ]) in
+    let k = sym s.long ∙ ap (λ p. length (stem p)) c.self.view_is in
+    let l = child_length c.args.self.now c.args.name.now in
+    let t = le-leb (length (child c.args.self.now c.args.name.now)) 255 (omega arith) in
+    let pushed = c.push.ensures.items ∙ ap (λ xs. xs ++ (47 ∷ [])) (c.truncate.ensures.items ∙ s.is ∙ ap stem c.self.view_is) in
+    let room : length c.push.new.self.items + length c.args.name.now ≤ 255 = let z = ap length c.truncate.ensures.items ∙ ap length s.is ∙ s.long in omega arith in
+    let e = extended c.try_extend_from_slice.result (Err Limit) _ (c.try_extend_from_slice.ensures.variant.1 room) c.try_extend_from_slice.ensures.ok in
     record {
-      value = sym (le-leb (length (child (path_on c.args.self.now) c.args.name.now)) 255 (omega arith));
-      path = ap (take (c.stem_len-from.result + 1 + length c.args.name.now)) is ∙ took c.args.self.now.bytes c.args.name.now _ c.stem_len-from.result 47 (omega arith) ∙ ap (λ z. z ++ (47 ∷ c.args.name.now)) c.stem_len-from.ensures.stem;
-      short = record { least = omega arith; most = omega arith; slash = ap (λ z. lib.ListN.get_or z 0 0) is ∙ first-kept c.args.self.now.bytes _ c.stem_len-from.result c.requires.slash; held = let z = ap length is in omega arith };
+      answer = c.or.ensures ∙ e.0 ∙ sym (cond-true (leb (length (child c.args.self.now c.args.name.now)) 255) _ _ t);
+      path = e.1 ∙ ap (λ xs. xs ++ c.args.name.now) pushed ∙ append_assoc (stem c.args.self.now) (47 ∷ []) c.args.name.now ∙ sym (cond-true (leb (length (child c.args.self.now c.args.name.now)) 255) _ _ t);
     }

@@ -1,25 +1,18 @@
-use Rattle.std.proofs.Common.{◌≡◌, ◌-◌, ◌≤◌, length, take, drop, subst, arith}
-use Rattle.names.specs.Paths.{leaf}
-use Rattle.loader.proofs.Buffers.{parent-root, parent-front}
+use Rattle.std.proofs.Common.{◌≡◌, length, take, get_or, sym, ap, ◌∙◌, subst, arith}
+use Rattle.names.specs.Paths.{parent}
+use Rattle.tree.specs.Places.{Bytes}
+use Rattle.loader.proofs.Trails.{parent_front, parent_slash}
 use Rattle.loader.proofs.trail.Trail.leave.Goals as goal
+use Rattle.loader.proofs.trail.Trail.leave.Goals.{After-truncate}
 
-pub returns-then-start-le1 : goal.returns-then-start-le1
-returns-then-start-le1 c =
-    let z : c.args.self.now.len - 0 ≡ c.args.self.now.len = omega arith in
-    let h = subst (λ m. drop c.leaf_start-start.result (take m c.args.self.now.bytes) ≡ leaf (take m c.args.self.now.bytes)) z c.leaf_start-start.ensures.value in
-    let k = subst (λ m. c.leaf_start-start.result ≤ length (take m c.args.self.now.bytes)) z c.leaf_start-start.ensures.within in
-    record {
-      path = parent-root c.args.self.now c.leaf_start-start.result c.requires (omega arith) h k c.if-start-le1.true;
-      short = record { least = omega arith; most = omega arith; slash = c.requires.slash; held = let h = c.requires.held in omega arith };
-    }
+-- what is left is the parent
+left : (c : After-truncate) → c.truncate.new.self.items ≡ parent c.self.inside.path.items
+left c =
+    let e = c.parent_of-len.ensures ∙ ap parent c.deref.ensures.0 in
+    c.truncate.ensures.items ∙ ap (λ p. take (length p) c.self.inside.path.items) e ∙ parent_front c.self.inside.path.items c.self.invariant
 
-pub returns-else-start-le1 : goal.returns-else-start-le1
-returns-else-start-le1 c =
-    let z : c.args.self.now.len - 0 ≡ c.args.self.now.len = omega arith in
-    let h = subst (λ m. drop c.leaf_start-start.result (take m c.args.self.now.bytes) ≡ leaf (take m c.args.self.now.bytes)) z c.leaf_start-start.ensures.value in
-    let k = subst (λ m. c.leaf_start-start.result ≤ length (take m c.args.self.now.bytes)) z c.leaf_start-start.ensures.within in
-    let l = lib.ListN.length-take c.args.self.now.len c.args.self.now.bytes in
-    record {
-      path = parent-front c.args.self.now c.leaf_start-start.result c.requires (omega arith) h k (omega arith);
-      short = record { least = omega arith; most = let m = c.requires.most in omega arith; slash = c.requires.slash; held = let h = c.requires.held in omega arith };
-    }
+pub invariant_of-self : goal.invariant_of-self
+invariant_of-self c = ap (λ p. get_or p 0 0) (left (goal.at.invariant_of-self c).After-truncate) ∙ parent_slash c.self.inside.path.items c.self.invariant
+
+pub returns : goal.returns
+returns c = left (goal.at.returns c).After-truncate ∙ ap parent c.self.view_is
