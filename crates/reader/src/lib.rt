@@ -4,5 +4,6 @@
 pub mod cursor;
 pub mod flat;
 pub mod read;
+mod reader;
 mod seen;
 pub mod tokens;
