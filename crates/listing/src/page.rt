@@ -6,9 +6,8 @@ ghost use Rattle.listing.specs.Page.{value_text, line_of, lines_of, good_line, g
 ghost use Rattle.listing.specs.Rows.{place_of, held};
 ghost use Rattle.listing.specs.Shown.{Appended};
 
-use crate::hex::push_hex;
 use crate::rows::{Place, Sorted, arrange, collect_rows};
-use crate::text::{is_text, push_quoted};
+use crate::text::{is_text, push_hex, push_quoted};
 use blob::types::Refusal;
 use reader::counts::Counts;
 use reader::flat::Flat;
