@@ -11,8 +11,9 @@ use Rattle.blob.specs.Lexing.{Tokens, Follow}
 use Rattle.blob.specs.Grammar.{IsToken}
 use Rattle.blob.specs.declared.types.Layout.{Layout}
 use Rattle.blob.specs.declared.types.Refusal.{Refusal}
-use Rattle.reader.specs.declared.counts.Counts.{Counts}
-use Rattle.reader.specs.Verdict.{has, Open, opened, kids, with_node, with_property, node_fits, property_fits, none, root_only, next_at, follow, verdict}
+use Rattle.tree.specs.declared.counts.Counts.{Counts}
+use Rattle.tree.specs.Counting.{with_node, with_property, node_fits, property_fits, zero}
+use Rattle.reader.specs.Verdict.{has, Open, opened, kids, root_only, next_at, follow, verdict}
 use Rattle.reader.specs.Format.{Spelt, Fills, fill_none, fill_more, keep_on, kept, node_entry, property_entry, distinct, Properties, no_property, a_property, Node, a_node, Body, a_body, Nodes, no_node, more_nodes, Root, a_root, within}
 use Rattle.reader.specs.Reading.{sound_on, sound, entries}
 use Rattle.blob.proofs.Shapes.{token-ahead}
@@ -210,16 +211,16 @@ module _ (bs : Bytes) (l : Layout) (ts : Tokens) (r : Counts)
       }
 
   enter : (g : Open) (gs : List Open) (q : Bytes) (ps : List Bytes) (name : Bytes) → Paths (g ∷ gs) (q ∷ ps) → LexedOn bs l p (Some (begin name)) (λ n. Lexed bs l n ts)
-      → node_name name ≡ true → has name (kids g) ≡ false → node_fits c g.path name ≡ true
-      → verdict (opened (g.path + 1 + length name) false [] ∷ opened g.path true (kids g ++ (name ∷ [])) ∷ gs) (with_node c name) ts ≡ Ok r
+      → node_name name ≡ true → has name (kids g) ≡ false → node_fits c (g.path + 1 + length name) (length name) ≡ true
+      → verdict (opened (g.path + 1 + length name) false [] ∷ opened g.path true (kids g ++ (name ∷ [])) ∷ gs) (with_node c (length name)) ts ≡ Ok r
       → Done bs l (g ∷ gs) (q ∷ ps) c p ((p, begin name) ∷ sound ts) ((p, begin name) ∷ raw ts) r
   unfolding entries distinct
   enter g gs q ps name m x good new room e =
       let lone = distinct_push (kids g) name (kids-distinct g m.1) new in
       let size : g.path + 1 + length name ≡ length (stem (child q name)) = ap (λ z. z + 1 + length name) m.0 ∙ sym (child_length q name) ∙ ap length (sym (stem-of q name good)) in
       let low : length (child q name) ≤ 255 = let z = child_length q name in let w = m.0 in grind (arith, nat_tests) in
-      let f : Fits (with_node c name) = record { nodes = grind (arith, nat_tests); properties = fit.properties; weight = grind (arith, nat_tests) } in
-      let d = ih (opened (g.path + 1 + length name) false [] ∷ opened g.path true (kids g ++ (name ∷ [])) ∷ gs) (child q name ∷ q ∷ ps) (with_node c name) x.0 (omega arith) f (size, refl, low, (m.0, lone, m.2, m.3)) x.2 e in
+      let f : Fits (with_node c (length name)) = record { nodes = grind (arith, nat_tests); properties = fit.properties; weight = grind (arith, nat_tests) } in
+      let d = ih (opened (g.path + 1 + length name) false [] ∷ opened g.path true (kids g ++ (name ∷ [])) ∷ gs) (child q name ∷ q ∷ ps) (with_node c (length name)) x.0 (omega arith) f (size, refl, low, (m.0, lone, m.2, m.3)) x.2 e in
       record {
         closes = adopt g q name p (sound ts) (entries (child q name ∷ q ∷ ps) (sound ts)) (Closes gs ps) good m.1 d.closes;
         fills = fill_more x.1 d.fills;
@@ -229,15 +230,15 @@ module _ (bs : Bytes) (l : Layout) (ts : Tokens) (r : Counts)
       }
 
   hold : (g : Open) (gs : List Open) (q : Bytes) (ps : List Bytes) (name value : Bytes) → Paths (g ∷ gs) (q ∷ ps) → LexedOn bs l p (Some (property name value)) (λ n. Lexed bs l n ts)
-      → g.children ≡ false → property_name name ≡ true → has name g.names ≡ false → property_fits c name value ≡ true
-      → verdict (opened g.path false (g.names ++ (name ∷ [])) ∷ gs) (with_property c name value) ts ≡ Ok r
+      → g.children ≡ false → property_name name ≡ true → has name g.names ≡ false → property_fits c (length name) (length value) ≡ true
+      → verdict (opened g.path false (g.names ++ (name ∷ [])) ∷ gs) (with_property c (length name) (length value)) ts ≡ Ok r
       → Done bs l (g ∷ gs) (q ∷ ps) c p ((p, property name value) ∷ sound ts) ((p, property name value) ∷ raw ts) r
   unfolding entries
   hold g gs q ps name value m x early good new room e =
       let lone = distinct_push g.names name m.1 new in
-      let f : Fits (with_property c name value) = record { nodes = fit.nodes; properties = grind (arith, nat_tests); weight = grind (arith, nat_tests) } in
+      let f : Fits (with_property c (length name) (length value)) = record { nodes = fit.nodes; properties = grind (arith, nat_tests); weight = grind (arith, nat_tests) } in
       let small : length value ≤ 4096 = grind (arith, nat_tests) in
-      let d = ih (opened g.path false (g.names ++ (name ∷ [])) ∷ gs) (q ∷ ps) (with_property c name value) x.0 some f (m.0, lone, m.2, m.3) x.2 e in
+      let d = ih (opened g.path false (g.names ++ (name ∷ [])) ∷ gs) (q ∷ ps) (with_property c (length name) (length value)) x.0 some f (m.0, lone, m.2, m.3) x.2 e in
       record {
         closes = lead g q name value p (sound ts) (entries (q ∷ ps) (sound ts)) (Closes gs ps) good early d.closes;
         fills = fill_more x.1 d.fills;
@@ -277,7 +278,7 @@ pub record Whole (bs : Bytes) (l : Layout) (p : ℕ) (xs rs : Spelt) (r : Counts
   pub tree : Root xs (entries [] xs)
   pub fills : Fills bs l p rs l.end
   pub within : within (entries [] xs) ≡ true
-  pub tally : r ≡ plus none (entries [] xs)
+  pub tally : r ≡ plus zero (entries [] xs)
 
 module _ (bs : Bytes) (l : Layout) (ts : Tokens) (r : Counts) (p : ℕ) where
   top : LexedOn bs l p (Some (begin [])) (λ n. Lexed bs l n ts) → verdict (opened 0 false [] ∷ []) root_only ts ≡ Ok r → Whole bs l p ((p, begin []) ∷ sound ts) ((p, begin []) ∷ raw ts) r
@@ -291,7 +292,7 @@ module _ (bs : Bytes) (l : Layout) (ts : Tokens) (r : Counts) (p : ℕ) where
       let body : Body root (sound ts) (o.ps ++ o.ks) ((o.q, end) ∷ (b.0, finish) ∷ []) =
       a_body o.props (o.own refl) (subst (λ z. Nodes root o.mid o.ks o.ms ((o.q, end) ∷ z)) b.1 o.kin) o.apart in
       let all : es ≡ o.ps ++ o.ks = o.is ∙ ap (λ z. (o.ps ++ o.ks) ++ z) b.2 ∙ append-nil (o.ps ++ o.ks) in
-      let fits : Fits (plus none (node_entry p root ∷ es)) = subst Fits (d.tally ∙ sym (plus-root p es)) d.fits in
+      let fits : Fits (plus zero (node_entry p root ∷ es)) = subst Fits (d.tally ∙ sym (plus-root p es)) d.fits in
       record {
         tree = a_root (subst (λ z. Body root (sound ts) z ((o.q, end) ∷ (b.0, finish) ∷ [])) (sym all) body);
         fills = fill_more x.1 d.fills;
@@ -299,7 +300,7 @@ module _ (bs : Bytes) (l : Layout) (ts : Tokens) (r : Counts) (p : ℕ) where
         tally = d.tally ∙ sym (plus-root p es);
       }
 
-  start : (o : Option Tok) → LexedOn bs l p o (λ n. Lexed bs l n ts) → ((q : ℕ) → Lexed bs l q ts → verdict [] none ts ≡ Ok r → Whole bs l q (sound ts) (raw ts) r) → follow (next_at [] none p o) (λ hs d. verdict hs d ts) ≡ Ok r
+  start : (o : Option Tok) → LexedOn bs l p o (λ n. Lexed bs l n ts) → ((q : ℕ) → Lexed bs l q ts → verdict [] zero ts ≡ Ok r → Whole bs l q (sound ts) (raw ts) r) → follow (next_at [] zero p o) (λ hs d. verdict hs d ts) ≡ Ok r
       → Whole bs l p (sound_on p o (sound ts)) (raw_on p o (raw ts)) r
   start None x ih e = never _ r e
   start (Some (begin [])) x ih e = top x e
@@ -309,9 +310,9 @@ module _ (bs : Bytes) (l : Layout) (ts : Tokens) (r : Counts) (p : ℕ) where
   start (Some nop) x ih e = let w = ih x.0 x.2 e in record { tree = w.tree; fills = fill_more x.1 w.fills; within = w.within; tally = w.tally }
   start (Some finish) x ih e = never _ r e
 
-pub accepted-whole : (bs : Bytes) (l : Layout) (ts : Tokens) (r : Counts) (p : ℕ) → Lexed bs l p ts → verdict [] none ts ≡ Ok r → Whole bs l p (sound ts) (raw ts) r
+pub accepted-whole : (bs : Bytes) (l : Layout) (ts : Tokens) (r : Counts) (p : ℕ) → Lexed bs l p ts → verdict [] zero ts ≡ Ok r → Whole bs l p (sound ts) (raw ts) r
 unfolding verdict sound raw
 accepted-whole bs l [] r p x e = never _ r e
 accepted-whole bs l (x ∷ ts) r p h e =
     subst (λ z. Whole bs l p (sound_on z x.1 (sound ts)) (raw_on z x.1 (raw ts)) r) (sym h.0)
-    (start bs l ts r p x.1 h.1 (accepted-whole bs l ts r) (subst (λ z. follow (next_at [] none z x.1) (λ hs d. verdict hs d ts) ≡ Ok r) h.0 e))
+    (start bs l ts r p x.1 h.1 (accepted-whole bs l ts r) (subst (λ z. follow (next_at [] zero z x.1) (λ hs d. verdict hs d ts) ≡ Ok r) h.0 e))

@@ -9,8 +9,9 @@ use Rattle.tree.specs.Entries.{Entry}
 use Rattle.blob.specs.Tokens.{Tok, begin, property, end, nop, finish}
 use Rattle.blob.specs.Lexing.{Tokens}
 use Rattle.blob.specs.declared.types.Refusal.{Refusal}
-use Rattle.reader.specs.declared.counts.Counts.{Counts}
-use Rattle.reader.specs.Verdict.{has, Open, opened, kids, with_node, with_property, node_fits, property_fits, none, root_only, Next, stop, go, next, follow, verdict}
+use Rattle.tree.specs.declared.counts.Counts.{Counts}
+use Rattle.tree.specs.Counting.{with_node, with_property, node_fits, property_fits, zero}
+use Rattle.reader.specs.Verdict.{has, Open, opened, kids, root_only, Next, stop, go, next, follow, verdict}
 use Rattle.reader.specs.Format.{Spelt, keep_on, kept, node_entry, property_entry, distinct, Properties, no_property, a_property, Node, a_node, Body, a_body, Nodes, no_node, more_nodes, Root, a_root, within}
 use Rattle.reader.specs.Reading.{sound, entries}
 use Rattle.names.proofs.PathLaws.{child_length}
@@ -55,8 +56,8 @@ fits-parts c es fs f s =
 
 module _ (tl : Tokens) where
   -- one property's token
-  held : (n : ℕ) (names : List Bytes) (gs : List Open) (c : Counts) (p : ℕ) (name value : Bytes) (xs : Spelt) → property_name name ≡ true → has name names ≡ false → property_fits c name value ≡ true
-      → verdict (opened n false names ∷ gs) c (somes ((p, property name value) ∷ xs) ++ tl) ≡ verdict (opened n false (names ++ (name ∷ [])) ∷ gs) (with_property c name value) (somes xs ++ tl)
+  held : (n : ℕ) (names : List Bytes) (gs : List Open) (c : Counts) (p : ℕ) (name value : Bytes) (xs : Spelt) → property_name name ≡ true → has name names ≡ false → property_fits c (length name) (length value) ≡ true
+      → verdict (opened n false names ∷ gs) c (somes ((p, property name value) ∷ xs) ++ tl) ≡ verdict (opened n false (names ++ (name ∷ [])) ∷ gs) (with_property c (length name) (length value)) (somes xs ++ tl)
   unfolding verdict somes
   held n names gs c p name value xs good new room = rw (good, new, room)
 
@@ -68,17 +69,17 @@ module _ (tl : Tokens) where
   props-read {path} {ys} (a_property {p} {name} {value} {xs} {es} {ns} good rest) n names gs c d f s =
       let new = distinct_apart names name ns d in
       let sum = plus-property c p path name value es in
-      let g : Fits (plus (with_property c name value) es) = subst Fits sum f in
-      let w = fits-less (with_property c name value) es g in
+      let g : Fits (plus (with_property c (length name) (length value)) es) = subst Fits sum f in
+      let w = fits-less (with_property c (length name) (length value)) es g in
       let q = and_parts _ (each short es) s in
       let v : length value ≤ 4096 = leb-true _ _ (and_parts (leb (length path) 255) (leb (length value) 4096) q.0).1 in
-      let room : property_fits c name value ≡ true = let a = w.properties in let b = w.weight in grind (arith, nat_tests) in
-      let ih = props-read rest n (names ++ (name ∷ [])) gs (with_property c name value) (distinct_shift names name ns ∙ d) g q.1 in
+      let room : property_fits c (length name) (length value) ≡ true = let a = w.properties in let b = w.weight in grind (arith, nat_tests) in
+      let ih = props-read rest n (names ++ (name ∷ [])) gs (with_property c (length name) (length value)) (distinct_shift names name ns ∙ d) g q.1 in
       held n names gs c p name value xs good new room ∙ ih ∙ (λ i. verdict (opened n false (append_assoc names (name ∷ []) ns i) ∷ gs) (sym sum i) (somes ys ++ tl))
 
   -- one node's begin token
-  entered : (g : Open) (gs : List Open) (c : Counts) (p : ℕ) (name : Bytes) (xs : Spelt) → node_name name ≡ true → has name (kids g) ≡ false → node_fits c g.path name ≡ true
-      → verdict (g ∷ gs) c (somes ((p, begin name) ∷ xs) ++ tl) ≡ verdict (opened (g.path + 1 + length name) false [] ∷ opened g.path true (kids g ++ (name ∷ [])) ∷ gs) (with_node c name) (somes xs ++ tl)
+  entered : (g : Open) (gs : List Open) (c : Counts) (p : ℕ) (name : Bytes) (xs : Spelt) → node_name name ≡ true → has name (kids g) ≡ false → node_fits c (g.path + 1 + length name) (length name) ≡ true
+      → verdict (g ∷ gs) c (somes ((p, begin name) ∷ xs) ++ tl) ≡ verdict (opened (g.path + 1 + length name) false [] ∷ opened g.path true (kids g ++ (name ∷ [])) ∷ gs) (with_node c (length name)) (somes xs ++ tl)
   unfolding verdict somes
   entered g gs c p name xs good new room = rw (good, new, room)
 
@@ -92,15 +93,15 @@ module _ (tl : Tokens) where
         → verdict (g ∷ gs) c (somes xs ++ tl) ≡ verdict (opened g.path true (kids g ++ (name ∷ [])) ∷ gs) (plus c es) (somes ys ++ tl)
     node-read (a_node {path} {name} {p} {q} {xs} {ys} {es} good body) g gs c at new f s =
         let sum = plus-node c p path name es (leaf-of path name good) in
-        let h : Fits (plus (with_node c name) es) = subst Fits sum f in
-        let w = fits-less (with_node c name) es h in
+        let h : Fits (plus (with_node c (length name)) es) = subst Fits sum f in
+        let w = fits-less (with_node c (length name)) es h in
         let parts = and_parts _ (each short es) s in
         let low : length (child path name) ≤ 255 = leb-true _ _ (and_parts (leb (length (child path name)) 255) true parts.0).0 in
         let z = child_length path name in
-        let room : node_fits c g.path name ≡ true = let a = w.nodes in let b = w.weight in grind (arith, nat_tests) in
+        let room : node_fits c (g.path + 1 + length name) (length name) ≡ true = let a = w.nodes in let b = w.weight in grind (arith, nat_tests) in
         let size : g.path + 1 + length name ≡ length (stem (child path name)) = ap (λ m. m + 1 + length name) at ∙ sym z ∙ ap length (sym (stem-of path name good)) in
         entered g gs c p name xs good new room
-        ∙ body-read body q ys refl (g.path + 1 + length name) (opened g.path true (kids g ++ (name ∷ [])) ∷ gs) (with_node c name) size h parts.1
+        ∙ body-read body q ys refl (g.path + 1 + length name) (opened g.path true (kids g ++ (name ∷ [])) ∷ gs) (with_node c (length name)) size h parts.1
         ∙ ap (λ d. verdict (opened g.path true (kids g ++ (name ∷ [])) ∷ gs) d (somes ys ++ tl)) (sym sum)
 
     body-read : {path : Bytes} {xs : Spelt} {es : List Entry} {zs : Spelt} → Body path xs es zs → (q : ℕ) (ys : Spelt) → zs ≡ (q, end) ∷ ys → (n : ℕ) (gs : List Open) (c : Counts)
@@ -124,7 +125,7 @@ module _ (tl : Tokens) where
   unfolding verdict somes plus
   ended r es = let z : eqb (plus root_only es).nodes 0 ≡ false = ne_eqb _ 0 (λ e. omega arith) in rw z
 
-  pub root-read : {xs : Spelt} {es : List Entry} → Root xs es → within es ≡ true → verdict [] none (somes xs ++ tl) ≡ Ok (plus none es)
+  pub root-read : {xs : Spelt} {es : List Entry} → Root xs es → within es ≡ true → verdict [] zero (somes xs ++ tl) ≡ Ok (plus zero es)
   unfolding verdict somes stem
   root-read (a_root {p} {q} {r} {xs} {es} body) w =
       let t = within-fits (node_entry p root ∷ es) w in

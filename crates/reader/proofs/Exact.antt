@@ -16,8 +16,9 @@ use Rattle.blob.specs.declared.types.Refusal.{Refusal}
 use Rattle.blob.proofs.Heads.{header-sound, header-complete}
 use Rattle.blob.proofs.Lexed.{tokens_none, tokens-some, tokens-follow}
 use Rattle.blob.proofs.Shapes.{token-sound, token-complete, token-ahead}
-use Rattle.reader.specs.declared.counts.Counts.{Counts}
-use Rattle.reader.specs.Verdict.{verdict, none}
+use Rattle.tree.specs.declared.counts.Counts.{Counts}
+use Rattle.tree.specs.Counting.{zero}
+use Rattle.reader.specs.Verdict.{verdict}
 use Rattle.reader.specs.Format.{Spelt, Fills, fill_none, fill_more, kept, Root, Blob, within}
 use Rattle.reader.specs.Reading.{sound, entries, tokens_of, entries_of, given, structure, reading, Tally, Exact}
 use Rattle.reader.proofs.Accepted.{raw, kept-raw, lexed, Whole, accepted-whole}
@@ -44,8 +45,8 @@ module _ (bs : Bytes) (l : Layout) where
     lists : entries_of bs l ≡ es
     lists = ap (λ z. entries [] (sound z)) (found fills) ∙ ap (entries []) (sound-somes ts (tokens_from bs l l.end) past) ∙ root-entries tree
 
-    taken : within es ≡ true → verdict [] none (tokens_from bs l l.start) ≡ Ok (plus none es)
-    taken w = ap (verdict [] none) (found fills) ∙ verdict-kept ts (tokens_from bs l l.end) [] none ∙ root-read (tokens_from bs l l.end) tree w
+    taken : within es ≡ true → verdict [] zero (tokens_from bs l l.start) ≡ Ok (plus zero es)
+    taken w = ap (verdict [] zero) (found fills) ∙ verdict-kept ts (tokens_from bs l l.end) [] zero ∙ root-read (tokens_from bs l l.end) tree w
 
 module _ (bs : Bytes) (boot : ℕ) (es : List Entry) where
   complete : Blob bs boot es → within es ≡ true → reading bs ≡ Ok (boot, es)
@@ -56,7 +57,7 @@ module _ (bs : Bytes) (boot : ℕ) (es : List Entry) where
       ∙ (λ i. Ok (sym b.cpu i, lists bs l b.tokens es b.fills b.tree i))
 
   -- what is accepted, by the header and by the verdict
-  by-verdict : (l : Layout) → header bs ≡ Ok l → (r : Result Counts Refusal) → verdict [] none (tokens_from bs l l.start) ≡ r → given {A = ℕ × List Entry} (l.boot, entries_of bs l) r ≡ Ok (boot, es) → Blob bs boot es × (within es ≡ true)
+  by-verdict : (l : Layout) → header bs ≡ Ok l → (r : Result Counts Refusal) → verdict [] zero (tokens_from bs l l.start) ≡ r → given {A = ℕ × List Entry} (l.boot, entries_of bs l) r ≡ Ok (boot, es) → Blob bs boot es × (within es ≡ true)
   by-verdict l h (Err e) v g = let z : ◌≡◌ {A = ℕ} 0 1 = cc in absurd (omega arith)
   by-verdict l h (Ok c) v g =
       let w = accepted-whole bs l (tokens_from bs l l.start) c l.start (lexed bs l (tokens_from bs l l.start) l.start (tokens-follow bs l l.start)) v in
@@ -76,7 +77,7 @@ module _ (bs : Bytes) (boot : ℕ) (es : List Entry) where
 
   by_header : (r : Result Layout Refusal) → header bs ≡ r → structure bs r ≡ Ok (boot, es) → Blob bs boot es × (within es ≡ true)
   by_header (Err e) h g = let z : ◌≡◌ {A = ℕ} 0 1 = cc in absurd (omega arith)
-  by_header (Ok l) h g = by-verdict l h (verdict [] none (tokens_from bs l l.start)) refl g
+  by_header (Ok l) h g = by-verdict l h (verdict [] zero (tokens_from bs l l.start)) refl g
 
 unique : (bs : Bytes) (b d : ℕ) (es fs : List Entry) → Blob bs b es → Blob bs d fs → (b ≡ d) × (es ≡ fs)
 unique bs b d es fs x y =
@@ -88,7 +89,7 @@ unique bs b d es fs x y =
     )
 
 -- the counts of what is accepted are those of its entries
-pub tallied : (bs : Bytes) (l : Layout) (c : Counts) → verdict [] none (tokens_from bs l l.start) ≡ Ok c → Tally c (entries_of bs l)
+pub tallied : (bs : Bytes) (l : Layout) (c : Counts) → verdict [] zero (tokens_from bs l l.start) ≡ Ok c → Tally c (entries_of bs l)
 unfolding plus
 tallied bs l c v =
     let w = accepted-whole bs l (tokens_from bs l l.start) c l.start (lexed bs l (tokens_from bs l l.start) l.start (tokens-follow bs l l.start)) v in
@@ -96,7 +97,7 @@ tallied bs l c v =
     record { nodes = ap (λ d. d.nodes) t ∙ omega arith; properties = ap (λ d. d.properties) t ∙ omega arith; weight = ap (λ d. d.weight) t ∙ omega arith }
 
 -- they come in a good order, and make a tree by the rules
-module _ (bs : Bytes) (l : Layout) (c : Counts) (v : verdict [] none (tokens_from bs l l.start) ≡ Ok c) where
+module _ (bs : Bytes) (l : Layout) (c : Counts) (v : verdict [] zero (tokens_from bs l l.start) ≡ Ok c) where
   whole : Whole bs l l.start (sound (tokens_from bs l l.start)) (raw (tokens_from bs l l.start)) c
   whole = accepted-whole bs l (tokens_from bs l l.start) c l.start (lexed bs l (tokens_from bs l l.start) l.start (tokens-follow bs l l.start)) v
 

@@ -1,15 +1,12 @@
 -- One name more in the table. Assumes nothing.
-use Rattle.std.proofs.Common.{◌≡◌, ℕ, ◌+◌, ◌-◌, ◌<◌, ◌≤◌, List, [], ◌∷◌, ◌++◌, length, take, drop, set, Some, sym, ap, ◌∙◌, append_assoc, arith, length-take}
-use Rattle.std.specs.List.{between}
-use Rattle.std.proofs.lemmas.List.{take-append-drop, take_more_set, take-set-le, drop-append-le}
-use Rattle.std.proofs.lemmas.Slice.{between_is}
+use Rattle.std.proofs.Common.{◌≡◌, ℕ, ◌+◌, ◌-◌, ◌<◌, ◌≤◌, List, [], ◌∷◌, ◌++◌, length, take, drop, Some, sym, ap, ◌∙◌, append_assoc, arith, length-append}
+use Rattle.std.proofs.lemmas.List.{take-append-drop, take-append-le, drop-append-le}
 use Rattle.tree.specs.Places.{Bytes}
 use Rattle.tree.specs.Numbers.{be32}
 use Rattle.blob.specs.Grammar.{Text}
 use Rattle.blob.specs.Tokens.{begin, property, token_at}
 use Rattle.blob.specs.declared.types.Layout.{Layout}
 use Rattle.blob.proofs.Shapes.{token-sound}
-use Rattle.reader.specs.declared.seen.Seen.{Seen}
 use Rattle.reader.specs.Seen.{At, Spells}
 use Rattle.reader.specs.Passing.{Named}
 use Rattle.reader.proofs.Begun.{spells-push}
@@ -31,15 +28,10 @@ pub node-stands : (bs : Bytes) (l : Layout) (p : ℕ) (name : Bytes) (n : ℕ) �
 node-stands bs l p name n e = let h = token-sound bs l p (begin name) n e in text-stands bs _ _ name h.text
 
 -- a name is put on top of the table
-pub push-named : (bs : Bytes) (base o : ℕ) (name : Bytes) (ns : List Bytes) (was is : Seen) → base ≤ was.used → was.used < length was.at → is.at ≡ set was.at was.used o → is.used ≡ was.used + 1
-    → Spells bs (between base was.used was.at) ns → At bs o name → Named bs base was is (ns ++ (name ∷ []))
-push-named bs base o name ns was is order room at used spells here =
-    let fits : base ≤ length (take was.used was.at) = simp length-take (omega arith) in
-    let part : between base (was.used + 1) (set was.at was.used o) ≡ between base was.used was.at ++ (o ∷ []) =
-    between_is (set was.at was.used o) base (was.used + 1) ∙ ap (drop base) (take_more_set was.at was.used o room)
-    ∙ drop-append-le base (take was.used was.at) (o ∷ []) fits ∙ ap (λ z. z ++ (o ∷ [])) (sym (between_is was.at base was.used)) in
-    record {
-      below = ap (take base) at ∙ take-set-le base was.at was.used o order;
-      above = omega arith;
-      spells = rw (used, at, part) (spells-push bs (between base was.used was.at) ns o name spells here);
-    }
+pub push-named : (bs : Bytes) (base o : ℕ) (name : Bytes) (ns : List Bytes) (was is : List ℕ) → base ≤ length was → is ≡ was ++ (o ∷ []) → Spells bs (drop base was) ns → At bs o name
+    → Named bs base was is (ns ++ (name ∷ []))
+push-named bs base o name ns was is low e spells here = record {
+  below = ap (take base) e ∙ take-append-le base was (o ∷ []) low;
+  above = rw (e, length-append) (omega arith);
+  spells = rw (e, drop-append-le base was (o ∷ []) low) (spells-push bs (drop base was) ns o name spells here);
+}

@@ -9,8 +9,9 @@ use Rattle.tree.specs.Numbers.{pad4}
 use Rattle.tree.specs.Places.{Bytes, Place}
 use Rattle.tree.specs.Trees.{Places, node_count, property_count, weigh, nodes, properties, weight, roomy, short_place}
 use Rattle.tree.specs.Entries.{Entry, listed}
-use Rattle.reader.specs.declared.counts.Counts.{Counts}
-use Rattle.reader.specs.Verdict.{with_node, with_property, none, root_only}
+use Rattle.tree.specs.declared.counts.Counts.{Counts}
+use Rattle.tree.specs.Counting.{with_node, with_property, zero}
+use Rattle.reader.specs.Verdict.{root_only}
 use Rattle.reader.specs.Format.{node_entry, property_entry, within}
 
 abbrev pub short : Entry → Bool
@@ -44,17 +45,17 @@ pub plus_none : (c : Counts) → plus c [] ≡ c
 unfolding plus total
 plus_none c = counts_same _ _ _ _ _ _ (omega arith) (omega arith) (omega arith)
 
-pub plus-property : (c : Counts) (p : ℕ) (path name value : Bytes) (es : List Entry) → plus c (property_entry p path name value ∷ es) ≡ plus (with_property c name value) es
+pub plus-property : (c : Counts) (p : ℕ) (path name value : Bytes) (es : List Entry) → plus c (property_entry p path name value ∷ es) ≡ plus (with_property c (length name) (length value)) es
 unfolding plus total
 plus-property c p path name value es = counts_same _ _ _ _ _ _ (omega arith) (omega arith) (omega arith)
 
-pub plus-node : (c : Counts) (p : ℕ) (path name : Bytes) (es : List Entry) → leaf (child path name) ≡ name → plus c (node_entry p (child path name) ∷ es) ≡ plus (with_node c name) es
+pub plus-node : (c : Counts) (p : ℕ) (path name : Bytes) (es : List Entry) → leaf (child path name) ≡ name → plus c (node_entry p (child path name) ∷ es) ≡ plus (with_node c (length name)) es
 unfolding plus total
 plus-node c p path name es e =
     let w : pad4 (length (leaf (child path name)) + 1) ≡ pad4 (length name + 1) = ap (λ n. pad4 (length n + 1)) e in
     counts_same _ _ _ _ _ _ (omega arith) (omega arith) (omega arith)
 
-pub plus-root : (p : ℕ) (es : List Entry) → plus none (node_entry p root ∷ es) ≡ plus root_only es
+pub plus-root : (p : ℕ) (es : List Entry) → plus zero (node_entry p root ∷ es) ≡ plus root_only es
 unfolding plus total behind_last
 plus-root p es = counts_same _ _ _ _ _ _ (omega arith) (omega arith) (omega arith)
 
@@ -69,7 +70,7 @@ pub fits-less : (c : Counts) (es : List Entry) → Fits (plus c es) → Fits c
 unfolding plus
 fits-less c es f = record { nodes = omega (arith, f.nodes); properties = omega (arith, f.properties); weight = omega (arith, f.weight) }
 
-pub fits-within : (es : List Entry) → Fits (plus none es) → each short es ≡ true → within es ≡ true
+pub fits-within : (es : List Entry) → Fits (plus zero es) → each short es ≡ true → within es ≡ true
 unfolding plus
 fits-within es f s =
     let a : nodes (listed es) ≤ 256 = omega (arith, f.nodes) in
@@ -77,7 +78,7 @@ fits-within es f s =
     let d : weight (listed es) ≤ 24576 = omega (arith, f.weight) in
     grind (arith, nat_tests)
 
-pub within-fits : (es : List Entry) → within es ≡ true → Fits (plus none es) × (each short es ≡ true)
+pub within-fits : (es : List Entry) → within es ≡ true → Fits (plus zero es) × (each short es ≡ true)
 unfolding plus
 within-fits es w =
     let a : nodes (listed es) ≤ 256 = grind (arith, nat_tests) in

@@ -9,9 +9,9 @@ use Rattle.blob.specs.Lexing.{Tokens, tokens_from}
 use Rattle.blob.specs.Header.{header}
 use Rattle.blob.specs.declared.types.Layout.{Layout}
 use Rattle.blob.specs.declared.types.Refusal.{Refusal}
-use Rattle.reader.specs.declared.counts.Counts.{Counts}
-use Rattle.reader.specs.declared.flat.Flat.{Flat}
-use Rattle.reader.specs.Verdict.{verdict, none}
+use Rattle.tree.specs.declared.counts.Counts.{Counts}
+use Rattle.tree.specs.Counting.{zero}
+use Rattle.reader.specs.Verdict.{verdict}
 use Rattle.reader.specs.Format.{Spelt, keep_on, node_entry, property_entry, Blob, within}
 
 -- the tokens up to the first fault, without the skipped ones
@@ -60,17 +60,12 @@ given es (Ok c) = Ok es
 given es (Err e) = Err e
 
 abbrev pub structure : Bytes → Result Layout Refusal → Result (ℕ × List Entry) Refusal
-structure bs (Ok l) = given (l.boot, entries_of bs l) (verdict [] none (tokens_from bs l l.start))
+structure bs (Ok l) = given (l.boot, entries_of bs l) (verdict [] zero (tokens_from bs l l.start))
 structure bs (Err e) = Err e
 
 -- the boot CPU number and the entries, or the refusal: the header's, or that of the first faulty token
 abbrev pub reading : Bytes → Result (ℕ × List Entry) Refusal
 reading bs = structure bs (header bs)
-
--- what a blob that was read comes to
-abbrev pub read_of : Result Flat Refusal → Result (ℕ × List Entry) Refusal
-read_of (Ok f) = Ok (f.layout.boot, entries_of f.bytes.now f.layout)
-read_of (Err e) = Err e
 
 -- the counts are those of the entries
 pub record Tally (c : Counts) (es : List Entry) : Type 0 where

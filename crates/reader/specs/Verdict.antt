@@ -1,15 +1,15 @@
 -- What the reader makes of a list of tokens, one token at a time: how much of a tree they hold, or the first fault.
 -- Assumes nothing.
-use Rattle.std.specs.Prelude.{ℕ, ◌+◌, Bool, true, false, cond, not, ◌&&◌, ◌||◌, List, [], ◌∷◌, ◌++◌, length, Some, None, Ok, Err, Option, Result, ◌==◌, nat_le, nat_lt}
+use Rattle.std.specs.Prelude.{ℕ, ◌+◌, Bool, true, false, cond, not, ◌&&◌, ◌||◌, List, [], ◌∷◌, ◌++◌, length, Some, None, Ok, Err, Option, Result, ◌==◌}
 use Rattle.std.specs.Str.{bytes_eq}
 use Rattle.names.specs.Names.{node_name, property_name}
-use Rattle.tree.specs.Numbers.{pad4}
+use Rattle.tree.specs.Counting.{zero, with_node, with_property, node_fits, property_fits}
 use Rattle.tree.specs.Places.{Bytes}
+use Rattle.tree.specs.declared.counts.Counts.{Counts}
 use Rattle.blob.specs.Tokens.{Tok, begin, property, end, nop, finish}
 use Rattle.blob.specs.Lexing.{Tokens}
 use Rattle.blob.specs.declared.types.Refusal.{Refusal}
 use Rattle.blob.specs.declared.types.Refusal.TheVariants.{NotABlob, Token, Name, Limit}
-use Rattle.reader.specs.declared.counts.Counts.{Counts}
 
 -- is the name among these?
 abbrev pub has : Bytes → List Bytes → Bool
@@ -30,27 +30,9 @@ opened path children names = record { path = path; children = children; names = 
 abbrev pub kids : Open → List Bytes
 kids g = cond g.children g.names []
 
--- ---- counts and limits
-
-abbrev pub with_node : Counts → Bytes → Counts
-with_node c name = record { nodes = c.nodes + 1; properties = c.properties; weight = c.weight + pad4 (length name + 1) }
-
-abbrev pub with_property : Counts → Bytes → Bytes → Counts
-with_property c name value = record { nodes = c.nodes; properties = c.properties + 1; weight = c.weight + (length name + 1 + pad4 (length value)) }
-
--- a node so named, below one whose path has that length, passes no limit
-abbrev pub node_fits : Counts → ℕ → Bytes → Bool
-node_fits c path name = nat_lt c.nodes 256 && (nat_le (path + 1 + length name) 255 && nat_le (c.weight + pad4 (length name + 1)) 24576)
-
-abbrev pub property_fits : Counts → Bytes → Bytes → Bool
-property_fits c name value = nat_lt c.properties 1024 && (nat_le (length value) 4096 && nat_le (c.weight + (length name + 1 + pad4 (length value))) 24576)
-
-abbrev pub none : Counts
-none = record { nodes = 0; properties = 0; weight = 0 }
-
 -- the root alone, whose name is empty
 abbrev pub root_only : Counts
-root_only = record { nodes = 1; properties = 0; weight = 4 }
+root_only = with_node zero 0
 
 -- ---- one token
 
@@ -63,12 +45,12 @@ pub data Next : Type 0 where
 abbrev pub on_node : Open → List Open → Counts → ℕ → Bytes → Next
 on_node g gs c p name =
     cond (node_name name && not (has name (kids g)))
-    (cond (node_fits c g.path name) (go (opened (g.path + 1 + length name) false [] ∷ opened g.path true (kids g ++ (name ∷ [])) ∷ gs) (with_node c name)) (stop (Err (Limit p))))
+    (cond (node_fits c (g.path + 1 + length name) (length name)) (go (opened (g.path + 1 + length name) false [] ∷ opened g.path true (kids g ++ (name ∷ [])) ∷ gs) (with_node c (length name))) (stop (Err (Limit p))))
     (stop (Err (Name p)))
 
 -- why a property is refused in a node where no child has come, if it is
 abbrev pub property_fault : List Bytes → Counts → ℕ → Bytes → Bytes → Option Refusal
-property_fault ns c p name value = cond (property_name name && not (has name ns)) (cond (property_fits c name value) None (Some (Limit p))) (Some (Name p))
+property_fault ns c p name value = cond (property_name name && not (has name ns)) (cond (property_fits c (length name) (length value)) None (Some (Limit p))) (Some (Name p))
 
 abbrev pub unless : Option Refusal → Next → Next
 unless None m = m
@@ -77,7 +59,7 @@ unless (Some e) m = stop (Err e)
 -- a property's token at p, in the open node g: properties come before children
 abbrev pub on_property : Open → List Open → Counts → ℕ → Bytes → Bytes → Next
 on_property g gs c p name value =
-    cond g.children (stop (Err (Token p))) (unless (property_fault g.names c p name value) (go (opened g.path false (g.names ++ (name ∷ [])) ∷ gs) (with_property c name value)))
+    cond g.children (stop (Err (Token p))) (unless (property_fault g.names c p name value) (go (opened g.path false (g.names ++ (name ∷ [])) ∷ gs) (with_property c (length name) (length value))))
 
 -- outside all nodes: there is one root, and its name is empty
 abbrev pub on_root : Counts → ℕ → Bytes → Next

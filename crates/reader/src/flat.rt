@@ -1,47 +1,30 @@
 // A blob that was read.
-ghost use Rattle.std.specs.Prelude.{◌≡◌, ◌≤◌, Ok};
+ghost use Rattle.std.specs.Prelude.{◌≡◌, true, Ok};
+ghost use Rattle.tree.specs.Entries.{well_listed};
 ghost use Rattle.blob.specs.Header.{header};
-ghost use Rattle.reader.specs.Handing.{ahead, Starts};
+ghost use Rattle.reader.specs.Handing.{named_tokens, until, ahead, Starts};
+ghost use Rattle.reader.specs.Reading.{entries_of, tokens_of, Tally};
 
-use crate::counts::Counts;
 use crate::cursor::Tokens;
 use blob::blob::Blob;
-use blob::types::Layout;
+use tree::counts::Counts;
 
-// The bytes of a blob within the limits, where its blocks lie, and how much they hold. `read` makes one.
+// A blob within the limits, and how much it holds. `read` makes one.
 #[derive(Clone, Copy)]
 pub struct Flat<'a> {
-    pub(crate) bytes: &'a [u8],
-    pub(crate) layout: Layout,
+    pub(crate) blob: Blob<'a>,
     pub(crate) counts: Counts,
-}
-
-// The layout itself where its blocks lie within so many bytes, as those of a blob that was read do; else an empty one.
-fn within(layout: Layout, len: usize) -> Layout
-    ensures same { layout.start ≤ layout.end → layout.end ≤ len → layout.strings ≤ layout.strings_end → layout.strings_end ≤ len → result ≡ layout }
-    ensures bounds { (result.start ≤ result.end) × (result.end ≤ len) × (result.strings ≤ result.strings_end) × (result.strings_end ≤ len) }
-{
-    if layout.start <= layout.end
-        && layout.end <= len
-        && layout.strings <= layout.strings_end
-        && layout.strings_end <= len
-    {
-        return layout;
-    }
-    Layout {
-        start: 0,
-        end: 0,
-        strings: 0,
-        strings_end: 0,
-        boot: 0,
-    }
+    ghost laid: { header blob.bytes.now ≡ Ok blob.layout },
+    ghost tally: { Tally counts (entries_of blob.bytes.now blob.layout) },
+    ghost listed: { well_listed (entries_of blob.bytes.now blob.layout) ≡ true },
+    ghost named: { named_tokens (until (tokens_of blob.bytes.now blob.layout)) ≡ true },
 }
 
 impl<'a> Flat<'a> {
     pub fn boot_cpu(&self) -> u32
-        ensures { result ≡ self.now.layout.boot }
+        ensures { result ≡ self.now.blob.layout.boot }
     {
-        self.layout.boot
+        self.blob.layout.boot
     }
 
     pub fn counts(&self) -> Counts
@@ -52,12 +35,10 @@ impl<'a> Flat<'a> {
 
     // A cursor at the first token.
     pub fn tokens(&self) -> Tokens<'a>
-        ensures { header self.now.bytes.now ≡ Ok self.now.layout → Starts self.now.bytes.now self.now.layout (ahead result.blob.bytes.now result.blob.layout result.next) }
+        ensures { Starts self.now.blob.bytes.now self.now.blob.layout (ahead result.blob.bytes.now result.blob.layout result.next) }
     {
-        let bytes = self.bytes;
-        let layout = within(self.layout, bytes.len());
-        let next = layout.start;
-        let blob = Blob { bytes, layout };
+        let blob = self.blob;
+        let next = blob.layout.start;
         Tokens { blob, next }
     }
 }
