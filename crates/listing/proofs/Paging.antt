@@ -4,7 +4,7 @@ use Rattle.std.specs.Option.{option_map}
 use Rattle.tree.specs.Entries.{Entry, listed, inserted}
 use Rattle.tree.specs.Places.{Bytes}
 use Rattle.tree.specs.Trees.{Places, nodes, properties, weight}
-use Rattle.reader.specs.declared.counts.Counts.{Counts}
+use Rattle.tree.specs.declared.counts.Counts.{Counts}
 use Rattle.reader.specs.Reading.{Tally}
 use Rattle.listing.specs.Page.{value_text, property_text, lines_of, good_line, good_page}
 use Rattle.listing.specs.Rows.{with, arranged}
