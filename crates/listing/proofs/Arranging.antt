@@ -9,7 +9,7 @@ use Rattle.std.specs.Ordering.{match_ordering as by_order, nat_cmp, ordering_the
 use Rattle.names.specs.Orders.{path_order}
 use Rattle.std.proofs.lemmas.List.{map-append}
 use Rattle.tree.specs.Maps.{upd}
-use Rattle.tree.specs.Places.{Bytes, Place, order}
+use Rattle.tree.specs.Places.{Bytes, Place}
 use Rattle.tree.specs.Trees.{Places}
 use Rattle.tree.proofs.Places.{place-order}
 use Rattle.listing.specs.declared.rows.Place.{Place as RowPlace}

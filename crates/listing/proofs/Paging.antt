@@ -1,15 +1,13 @@
 -- Steps of what is printed.
-use Rattle.std.proofs.Common.{◌≡◌, ℕ, ◌+◌, ◌<◌, ◌≤◌, Bool, true, false, cond, List, [], ◌∷◌, ◌++◌, length, get_or, drop, Some, None, Option, sym, refl, ap, ◌∙◌, append_assoc, append-nil, Bor}
+use Rattle.std.proofs.Common.{◌≡◌, ℕ, Bool, true, false, cond, List, [], ◌∷◌, ◌++◌, Some, None, Option, sym, refl, ap, ◌∙◌, append_assoc, append-nil, Bor}
 use Rattle.std.specs.Option.{option_map}
-use Rattle.std.proofs.lemmas.List.{at_drop_all}
 use Rattle.tree.specs.Entries.{Entry, listed, inserted}
 use Rattle.tree.specs.Places.{Bytes}
 use Rattle.tree.specs.Trees.{Places, nodes, properties, weight}
-use Rattle.reader.specs.declared.counts.Counts.{Counts}
+use Rattle.tree.specs.declared.counts.Counts.{Counts}
 use Rattle.reader.specs.Reading.{Tally}
-use Rattle.listing.specs.declared.rows.Row.{Row}
-use Rattle.listing.specs.Page.{value_text, property_text, line_of, lines_of, good_line, good_page}
-use Rattle.listing.specs.Rows.{keyed, placed, with, arranged}
+use Rattle.listing.specs.Page.{value_text, property_text, lines_of, good_line, good_page}
+use Rattle.listing.specs.Rows.{with, arranged}
 
 -- ---- what is appended only where a test holds
 

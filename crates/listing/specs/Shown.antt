@@ -1,5 +1,6 @@
 -- How the bytes of a value are shown. Assumes nothing.
 use Rattle.std.specs.Prelude.{◌≡◌, ℕ, ◌+◌, ◌-◌, ◌/◌, ◌%◌, Bool, true, false, cond, not, ◌&&◌, ◌||◌, List, [], ◌∷◌, ◌++◌, length, take, Result, OnOk, ◌==◌, nat_le, nat_lt}
+use Rattle.std.specs.List.{list_all}
 
 -- 0 to 9, then a to f
 abbrev pub hex_digit : ℕ → ℕ
@@ -13,6 +14,10 @@ hex (b ∷ bs) = hex_digit (b / 16) ∷ hex_digit (b % 16) ∷ hex bs
 -- from the space to ~
 abbrev pub printable : ℕ → Bool
 printable b = nat_le 32 b && nat_le b 126
+
+-- a text of printable bytes that is not empty
+abbrev pub printed : List ℕ → Bool
+printed text = not (length text == 0) && list_all printable text
 
 -- printable bytes with a zero byte behind each run of them; `began` where a run has begun
 abbrev pub runs : Bool → List ℕ → Bool

@@ -1,7 +1,6 @@
 // Lists a blob: what `dtstack list` prints of it.
 #![tactic(auto)]
 
-pub mod hex;
 pub mod page;
 pub mod rows;
 pub mod text;

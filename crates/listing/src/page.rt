@@ -1,19 +1,17 @@
 // What is printed of a file.
-ghost use Rattle.std.specs.Prelude.{◌≡◌, IfOk, Ok};
-ghost use Rattle.blob.specs.Header.{header};
-ghost use Rattle.reader.specs.Reading.{entries_of, reading, Tally};
+ghost use Rattle.std.specs.Prelude.{◌≡◌, IfOk};
+ghost use Rattle.reader.specs.Reading.{entries_of, reading};
 ghost use Rattle.listing.specs.Page.{value_text, line_of, lines_of, good_line, good_page, refused_line, page};
 ghost use Rattle.listing.specs.Rows.{place_of, held};
 ghost use Rattle.listing.specs.Shown.{Appended};
 
-use crate::hex::push_hex;
 use crate::rows::{Place, Sorted, arrange, collect_rows};
-use crate::text::{is_text, push_quoted};
+use crate::text::{is_text, push_hex, push_quoted};
 use blob::types::Refusal;
-use reader::counts::Counts;
 use reader::flat::Flat;
 use reader::read::read;
 use std::alloc::{AllocError, Global};
+use tree::counts::Counts;
 
 // Appends the length of a value, its bytes, and its text where it is one.
 fn push_value(out: &mut Vec<u8>, value: &[u8]) -> Result<(), AllocError>
@@ -60,9 +58,11 @@ fn push_rows(out: &mut Vec<u8>, rows: &Sorted) -> Result<(), AllocError>
 fn good_line(heap: Global, file: &str, boot: u32, counts: Counts) -> Result<Vec<u8>, AllocError>
     ensures { IfOk result (λ v. v.items ≡ good_line file.now boot counts.nodes counts.properties counts.weight) }
 {
-    let nodes = counts.nodes;
-    let properties = counts.properties;
-    let weight = counts.weight;
+    let Counts {
+        nodes,
+        properties,
+        weight,
+    } = counts;
     let line = format!(in heap;
         "{file}: ok boot={boot} nodes={nodes} properties={properties} weight={weight}\n"
     )?;
@@ -71,9 +71,7 @@ fn good_line(heap: Global, file: &str, boot: u32, counts: Counts) -> Result<Vec<
 
 // All that is printed of a blob that is accepted.
 fn list_good(heap: Global, file: &str, flat: &Flat) -> Result<Vec<u8>, AllocError>
-    requires tally { Tally flat.now.counts (entries_of flat.now.bytes.now flat.now.layout) }
-    requires layout { header flat.now.bytes.now ≡ Ok flat.now.layout }
-    ensures { IfOk result (λ v. v.items ≡ good_page file.now flat.now.layout.boot (entries_of flat.now.bytes.now flat.now.layout)) }
+    ensures { IfOk result (λ v. v.items ≡ good_page file.now flat.now.blob.layout.boot (entries_of flat.now.blob.bytes.now flat.now.blob.layout)) }
 {
     let mut out = good_line(heap, file, flat.boot_cpu(), flat.counts())?;
     let rows = arrange(heap, collect_rows(heap, flat.tokens())?)?;

@@ -1,35 +1,21 @@
-use Rattle.std.proofs.Common.{arith}
+use Rattle.std.proofs.Common.{◌≡◌, false, ◌==◌, rules, tests, ◌∙◌, arith}
 use Rattle.std.proofs.lemmas.Bool.Decides.{nat_tests}
-use Rattle.listing.proofs.Shows.{text-zero, text-other, text-none, text-all}
+use Rattle.std.proofs.lemmas.Iterator.Search.{all_from_yields_List}
+use Rattle.std.proofs.lemmas.Iterator.Splits.{YieldsList-from_slice_split}
+use Rattle.listing.specs.Shown.{printed}
+use Rattle.listing.proofs.Shows.{text_parts, text_open}
 use Rattle.listing.proofs.text.is_text.Goals as goal
-use Rattle.listing.proofs.text.is_text.Goals.{then-b-eq0+else-not-began, else-b-eq0+else-not-is_printable}
 
-pub returns-then-not-began : goal.returns-then-not-began
-returns-then-not-began c =
-    let z = text-zero _ _ _ c.loop-b-test.true c.loop-b.invariant c.if-b-eq0.true in
-    let n = c.if-not-began.true in
-    text-none c.args.value.now _ z (grind (arith, nat_tests))
+pub returns-then-end-eq0 : goal.returns-then-end-eq0
+returns-then-end-eq0 c =
+    let xs = c.in-Some.texts.now in
+    all_from_yields_List printed _ _ _ c.all.ensures.ran
+    (YieldsList-from_slice_split _ (λ b. b == 0) xs c.split.ensures.rest c.split.ensures.done c.split.ensures.closure (λ x b q k. search (rules, tests)))
+    (λ x b q k. search (rules, tests))
+    ∙ text_parts c.args.value.now xs c.in-Some.end.now c.in-Some.ensures.cases.0 c.if-end-eq0.true
 
-pub returns-then-not-is_printable : goal.returns-then-not-is_printable
-returns-then-not-is_printable c =
-    let z = text-other _ _ _ c.loop-b-test.true c.loop-b.invariant c.if-b-eq0.false in
-    let n = c.if-not-is_printable.ensures in
-    text-none c.args.value.now _ z (grind (arith, nat_tests))
-
-pub loop-b-preserved : goal.loop-b-preserved
-loop-b-preserved c =
-    elim c.if-b-eq0.branch [
-      | then-b-eq0+else-not-began w ↦
-          let z = text-zero _ _ _ c.loop-b-test.true c.loop-b.invariant w.if-b-eq0.true in
-          let n = w.if-not-began.false in
-          let b = w.began-is in
-          rw b (grind (arith, nat_tests))
-      | else-b-eq0+else-not-is_printable w ↦
-          let z = text-other _ _ _ c.loop-b-test.true c.loop-b.invariant w.if-b-eq0.false in
-          let n = w.if-not-is_printable.ensures in
-          let b = w.began-is in
-          rw b (grind (arith, nat_tests))
-    ]
-
-pub returns-then-value-ne0 : goal.returns-then-value-ne0
-returns-then-value-ne0 c = text-all _ _ _ c.loop-b-test.false c.loop-b.invariant c.if-value-ne0.true
+pub returns-else-end-eq0 : goal.returns-else-end-eq0
+returns-else-end-eq0 c =
+    let n = c.if-end-eq0.false in
+    let e : (c.in-Some.end.now == 0) ≡ false = grind (arith, nat_tests) in
+    e ∙ text_open c.args.value.now c.in-Some.texts.now c.in-Some.end.now c.in-Some.ensures.cases.0 e
