@@ -9,5 +9,5 @@ pub mod Outcomes
 pub mod Sounds
 pub mod Splices
 pub mod Stems
+pub mod Steps
 pub mod Sums
-pub mod Turns

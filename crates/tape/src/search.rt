@@ -4,8 +4,9 @@ ghost use Rattle.names.specs.Paths.{path_text, stem};
 ghost use Rattle.tape.specs.Nodes.{child_in, property_in};
 ghost use Rattle.tape.specs.Tapes.{Here, Located, Opened, Owned, nth, placed, properties_at};
 
+use crate::iters::{children_of, properties_of};
 use crate::{Mark, Spot, Tape};
-use names::names::{find, same_bytes};
+use names::names::find;
 use names::paths::{SLASH, is_path};
 use store::Refusal;
 
@@ -14,20 +15,9 @@ fn find_child<T: Tape>(t: &T, from: Spot, name: &[u8]) -> Option<Spot>
     requires { Here (T.Tape.nodes t.now) (T.Tape.spot t.now) from }
     ensures { result ≡ placed (T.Tape.spot t.now) (from.node + 1) (child_in (nth (T.Tape.nodes t.now) from.node).depth name.now (drop (from.node + 1) (T.Tape.nodes t.now))) }
 {
-    let top = t.head(from);
-    let count = t.counts().nodes;
-    let mut at = top.next;
-    while at.node < count {
-        let head = t.head(at);
-        if head.depth <= top.depth {
-            return None;
-        }
-        if head.depth - top.depth == 1 && same_bytes(t.name(at), name) {
-            return Some(at);
-        }
-        at = head.next;
-    }
-    None
+    children_of(t, from)
+        .find(|(_, child)| *child == name)
+        .map(|(at, _)| at)
 }
 
 // The property so named of the node at `at`.
@@ -36,15 +26,9 @@ pub fn find_property<T: Tape>(t: &T, at: Spot, name: &[u8]) -> Option<Mark>
     ensures value { result ≡ placed (T.Tape.mark t.now at.node) 0 (property_in name.now (properties_at (T.Tape.nodes t.now) at.node)) }
     ensures owned { Owned (T.Tape.nodes t.now) (T.Tape.mark t.now) at.node name.now result }
 {
-    let head = t.head(at);
-    let mut m = head.first;
-    while m.number < head.properties {
-        if same_bytes(t.property_name(m), name) {
-            return Some(m);
-        }
-        m = t.behind(m);
-    }
-    None
+    properties_of(t, at)
+        .find(|(_, property)| *property == name)
+        .map(|(m, _)| m)
 }
 
 // The node at a path.
