@@ -8,20 +8,21 @@ use Rattle.tape.specs.Tapes.{nth, properties_at, bare_node, with_node, with_prop
 use Rattle.tree.specs.Counting.{node_weight, property_weight}
 use Rattle.tape.proofs.Sums.{within_limits}
 use Rattle.live.specs.declared.memory.Memory.{Memory}
-use Rattle.live.specs.Records.{held, cell_of, property_bytes, bytes_of, cells_of, Whole}
+use Rattle.live.specs.Records.{held, cell_of, property_bytes, bytes_of, cells_of}
+use Rattle.live.proofs.Whole.{Whole}
 use Rattle.live.proofs.Coded.{bytes_join}
 use Rattle.live.proofs.Moved.{bytes-more, weight-more, cells-other, bytes-other, weight-put}
 use Rattle.live.proofs.Kept.{count-is, cells_are, size_is, nodes_light, cells_count, cells_at_lem, bytes-at}
 
-pub room-parts : (m : Memory) → Whole m → 0 < length (held m) → (256 ≤ length m.nodes.now) × (1024 ≤ length m.properties.now) × (24576 ≤ length m.pool.now)
+pub room-parts : (m : Memory) → Whole m → 0 < length (held m) → (256 ≤ length m.nodes.items.now) × (1024 ≤ length m.properties.items.now) × (24576 ≤ length m.pool.items.now)
 room-parts m w h =
     ⊎_elim
     (λ e. absurd (omega (arith, eqb-true _ _ e, count-is m w, h)))
     (λ e.
-    let a = and_parts (leb 256 (length m.nodes.now)) _ e in
-    let b = and_parts (leb 1024 (length m.properties.now)) (leb 24576 (length m.pool.now)) a.1 in
+    let a = and_parts (leb 256 (length m.nodes.items.now)) _ e in
+    let b = and_parts (leb 1024 (length m.properties.items.now)) (leb 24576 (length m.pool.items.now)) a.1 in
     (leb-true _ _ a.0, leb-true _ _ b.0, leb-true _ _ b.1))
-    (or_cases (eqb m.counts.nodes 0) _ w.room)
+    (or_cases (eqb m.nodes.used 0) _ w.room)
 
 pub room-from : (n a b c : ℕ) → 256 ≤ a → 1024 ≤ b → 24576 ≤ c → (eqb n 0 || (leb 256 a && (leb 1024 b && leb 24576 c))) ≡ true
 room-from n a b c x y z = or_right (eqb n 0) _ (and_from _ _ (le-leb _ _ x) (and_from _ _ (le-leb _ _ y) (le-leb _ _ z)))
@@ -53,10 +54,10 @@ module _ (m : Memory) (w : Whole m) (open' : 0 < length (held m)) (i d : ℕ) (l
       front-short : length (bytes_of (take i ns)) ≤ length (bytes_of ns)
       front-short = omega (arith, ap length (bytes_join (take i ns) (drop i ns)), length-append (bytes_of (take i ns)) (bytes_of (drop i ns)), ap (λ t. length (bytes_of t)) (take-append-drop i ns))
 
-  pub front-in : length (bytes_of (take i ns)) ≤ m.size
+  pub front-in : length (bytes_of (take i ns)) ≤ m.pool.used
   front-in = omega (arith, size_is m w, ap length (bytes_join (take i ns) (drop i ns)), length-append (bytes_of (take i ns)) (bytes_of (drop i ns)), ap (λ t. length (bytes_of t)) (take-append-drop i ns))
 
-  pub node-room : (m.counts.nodes + 1 ≤ length m.nodes.now) × (m.size + length c ≤ length m.pool.now) × (length c ≤ 24576) × (m.counts.weight + node_weight (length c) ≤ 24576)
+  pub node-room : (m.nodes.used + 1 ≤ length m.nodes.items.now) × (m.pool.used + length c ≤ length m.pool.items.now) × (length c ≤ 24576) × (m.weight + node_weight (length c) ≤ 24576)
   node-room =
       let t = takes m.boot ms v in
       let r = room-parts m w open' in
@@ -84,7 +85,7 @@ module _ (m : Memory) (w : Whole m) (i : ℕ) (h : i < length (held m)) (c u : B
       let n = (nth ns i).name in
       omega (arith, ap length (bytes-other ns i h ((c, u) ∷ ps)), ap length (bytes-at ns i h), length-append (bytes_of (take i ns)) (n ++ (property_bytes ((c, u) ∷ ps) ++ z)), length-append (bytes_of (take i ns)) (n ++ (property_bytes ps ++ z)), length-append n (property_bytes ((c, u) ∷ ps) ++ z), length-append n (property_bytes ps ++ z), length-append (property_bytes ((c, u) ∷ ps)) z, length-append (property_bytes ps) z, length-append c (u ++ property_bytes ps), length-append u (property_bytes ps))
 
-  pub property-room : (m.counts.properties + 1 ≤ length m.properties.now) × (m.size + length c + length u ≤ length m.pool.now) × (m.size + length c + length u ≤ 24576) × (m.counts.weight + property_weight (length c) (length u) ≤ 24576)
+  pub property-room : (m.properties.used + 1 ≤ length m.properties.items.now) × (m.pool.used + length c + length u ≤ length m.pool.items.now) × (m.pool.used + length c + length u ≤ 24576) × (m.weight + property_weight (length c) (length u) ≤ 24576)
   property-room =
       let t = takes m.boot ls v in
       let r = room-parts m w (omega (arith, h)) in

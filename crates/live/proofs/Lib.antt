@@ -1,5 +1,6 @@
 pub mod Coded
+pub mod Edited
 pub mod Fitted
-pub mod Flat
 pub mod Kept
 pub mod Moved
+pub mod Whole

@@ -7,7 +7,8 @@ use Rattle.tape.specs.Nodes.{Node, Property, valid}
 use Rattle.tape.specs.Tapes.{nowhere, nth, properties_at, property_of, bare_node, with_node, less_node, with_properties, less_property, weight_of, properties_weight}
 use Rattle.tree.specs.Counting.{node_weight, property_weight}
 use Rattle.live.specs.declared.memory.Memory.{Memory}
-use Rattle.live.specs.Records.{cell_of, property_bytes, row_of, rows_of, cells_of, bytes_of, nodes_from, used_rows, used_cells, used_bytes, held, room_for, Renewed}
+use Rattle.live.specs.Records.{cell_of, property_bytes, row_of, rows_of, cells_of, bytes_of, nodes_from, used_rows, used_cells, used_bytes, held, room_for}
+use Rattle.live.proofs.Whole.{Renewed}
 use Rattle.splices.specs.Splices.{spliced_in, spliced_out}
 use Rattle.live.proofs.Coded.{nodes_coded, bytes_join, cells_join, property-bytes_join}
 use Rattle.live.proofs.Kept.{bytes-at, cells_at_lem, bytes_on}
@@ -18,14 +19,11 @@ module _ (m : Memory) (ms : List Node) (rows : used_rows m ≡ rows_of ms) (cell
   held-is : held m ≡ ms
   held-is = (λ j. nodes_from (rows j) (cells j) (bytes j)) ∙ nodes_coded ms
 
-  pub renew : (b : ℕ) → m.boot ≡ b → m.counts.nodes ≤ length m.nodes.now → m.counts.properties ≤ length m.properties.now → m.size ≤ length m.pool.now → m.counts.weight ≡ weight_of ms → room_for m ≡ true → valid b ms ≡ true → Renewed m ms b
-  renew b eb hn hp hs w r v = record {
+  pub renew : (b : ℕ) → m.boot ≡ b → m.weight ≡ weight_of ms → room_for m ≡ true → valid b ms ≡ true → Renewed m ms b
+  renew b eb w r v = record {
     is = held-is;
     boot = eb;
     whole = record {
-      nodes_in = hn;
-      properties_in = hp;
-      size_in = hs;
       rows = ap rows_of held-is ∙ sym rows;
       cells = ap cells_of held-is ∙ sym cells;
       bytes = ap bytes_of held-is ∙ sym bytes;
@@ -271,18 +269,3 @@ module _ (ns : List Node) (i : ℕ) (h : i < length ns) where
       unfolding properties_weight
       weight-over =
           omega (arith, same, ap (λ t. property_weight (length x.0) t) same, weight-other ns i h (set ps k (x.0, u)), ap properties_weight set_is, properties-weight_join (take k ps) ((x.0, u) ∷ drop (k + 1) ps), ap properties_weight cut_up, properties-weight_join (take k ps) (x ∷ drop (k + 1) ps))
-
--- a part of the pool written over
-pub put_over : (pool X Y Z u last : Bytes) (size start n : ℕ) → take size pool ≡ X ++ (Y ++ Z) → size ≤ length pool → start ≡ length X → length u ≡ length Y → n ≡ length u → last ≡ u → take size (put_mid start n pool last) ≡ X ++ (u ++ Z)
-put_over pool X Y Z u last size start n e h a b d f =
-    let R = drop size pool in
-    let whole : pool ≡ X ++ ((Y ++ Z) ++ R) = sym (take-append-drop size pool) ∙ ap (λ t. t ++ R) e ∙ append_assoc X (Y ++ Z) R in
-    let front : take start pool ≡ X = ap (take start) whole ∙ take_at X _ start (sym a) in
-    let back : drop n (drop start pool) ≡ Z ++ R = ap (λ t. drop n (drop start t)) whole ∙ ap (drop n) (drop_at X ((Y ++ Z) ++ R) start (sym a)) ∙ ap (drop n) (append_assoc Y Z R) ∙ drop_at Y (Z ++ R) n (sym (d ∙ b)) in
-    let size_is : length (X ++ (u ++ Z)) ≡ size = omega (arith, length-append X (u ++ Z), length-append u Z, b, sym (ap length e) ∙ length-take-le size pool h, length-append X (Y ++ Z), length-append Y Z) in
-    let all : put_mid start n pool last ≡ (X ++ (u ++ Z)) ++ R = (λ j. front j ++ (f j ++ back j)) ∙ simp append_assoc in
-    ap (take size) all ∙ take_at (X ++ (u ++ Z)) R size size_is
-
-pub length_over : (pool last : Bytes) (start n : ℕ) → start + n ≤ length pool → length last ≡ n → length (put_mid start n pool last) ≡ length pool
-length_over pool last start n h e =
-    omega (arith, e, h, length-append (take start pool) (last ++ drop n (drop start pool)), length-append last (drop n (drop start pool)), length-take-le start pool (omega (arith, h)), length-drop n (drop start pool), length-drop start pool)

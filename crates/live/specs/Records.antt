@@ -1,10 +1,10 @@
 -- Nodes in records and a byte pool: each record's bytes are the next ones of the pool, so that records hold lengths alone. Assumes nothing.
-use Rattle.std.specs.Prelude.{◌≡◌, ℕ, ◌+◌, ◌≤◌, Bool, true, ◌&&◌, ◌||◌, List, [], ◌∷◌, ◌++◌, map, length, take, drop, ◌==◌, nat_le}
+use Rattle.std.specs.Prelude.{ℕ, ◌+◌, Bool, ◌&&◌, ◌||◌, List, [], ◌∷◌, ◌++◌, map, length, take, drop, ◌==◌, nat_le}
 use Rattle.tree.specs.Places.{Bytes}
 use Rattle.tape.specs.declared.Mark.{Mark}
 use Rattle.tape.specs.declared.Spot.{Spot}
-use Rattle.tape.specs.Nodes.{Node, Property, valid}
-use Rattle.tape.specs.Tapes.{nth, properties_at, weight_of}
+use Rattle.tape.specs.Nodes.{Node, Property}
+use Rattle.tape.specs.Tapes.{nth, properties_at}
 use Rattle.live.specs.declared.memory.Memory.{Memory}
 use Rattle.live.specs.declared.memory.NodeRecord.{NodeRecord}
 use Rattle.live.specs.declared.memory.PropertyRecord.{PropertyRecord}
@@ -47,13 +47,13 @@ nodes_from (r ∷ rs) ps pool =
 -- ---- the memory of a store, and how much of it is in use
 
 abbrev pub used_rows : Memory → List NodeRecord
-used_rows m = take m.counts.nodes m.nodes.now
+used_rows m = take m.nodes.used m.nodes.items.now
 
 abbrev pub used_cells : Memory → List PropertyRecord
-used_cells m = take m.counts.properties m.properties.now
+used_cells m = take m.properties.used m.properties.items.now
 
 abbrev pub used_bytes : Memory → Bytes
-used_bytes m = take m.size m.pool.now
+used_bytes m = take m.pool.used m.pool.items.now
 
 abbrev pub held : Memory → List Node
 held m = nodes_from (used_rows m) (used_cells m) (used_bytes m)
@@ -61,19 +61,7 @@ held m = nodes_from (used_rows m) (used_cells m) (used_bytes m)
 -- a store in use has room for every tree within the limits
 abbrev pub room_for : Memory → Bool
 room_for m =
-    (m.counts.nodes == 0) || (nat_le 256 (length m.nodes.now) && (nat_le 1024 (length m.properties.now) && nat_le 24576 (length m.pool.now)))
-
--- what always holds of the memory
-pub record Whole (m : Memory) : Type 0 where
-  pub nodes_in : m.counts.nodes ≤ length m.nodes.now
-  pub properties_in : m.counts.properties ≤ length m.properties.now
-  pub size_in : m.size ≤ length m.pool.now
-  pub rows : rows_of (held m) ≡ used_rows m
-  pub cells : cells_of (held m) ≡ used_cells m
-  pub bytes : bytes_of (held m) ≡ used_bytes m
-  pub weight : m.counts.weight ≡ weight_of (held m)
-  pub room : room_for m ≡ true
-  pub sound : valid m.boot (held m) ≡ true
+    (m.nodes.used == 0) || (nat_le 256 (length m.nodes.items.now) && (nat_le 1024 (length m.properties.items.now) && nat_le 24576 (length m.pool.items.now)))
 
 -- records as the numbers in them
 unfoldable pub flat_rows : List NodeRecord → List ℕ
@@ -91,9 +79,3 @@ spot_in ns i = record { node = i; property = length (cells_of (take i ns)); at =
 abbrev pub mark_in : List Node → ℕ → ℕ → Mark
 mark_in ns i k =
     record { node = i; number = k; property = length (cells_of (take i ns)) + k; at = length (bytes_of (take i ns)) + length (nth ns i).name + length (property_bytes (take k (properties_at ns i))) }
-
--- memory that was made to hold ms, with that boot CPU number
-pub record Renewed (m : Memory) (ms : List Node) (number : ℕ) : Type 0 where
-  pub is : held m ≡ ms
-  pub boot : m.boot ≡ number
-  pub whole : Whole m

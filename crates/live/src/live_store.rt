@@ -1,26 +1,21 @@
 // The live store as a tape of nodes.
-ghost use Rattle.std.specs.Prelude.{◌≡◌, ◌≤◌, true, length, refl};
+ghost use Rattle.std.specs.Prelude.{◌≡◌, true, refl};
 ghost use Rattle.live.specs.Records.{held, flat_rows, flat_cells, rows_of, cells_of, bytes_of, used_rows, used_cells, used_bytes, room_for, spot_in, mark_in};
 ghost use Rattle.tape.specs.Nodes.{valid};
 ghost use Rattle.tape.specs.Tapes.{weight_of};
 
 pub mod calls;
 
-use crate::edits::{cut_node, cut_property, put_node, put_property, write_value};
-use crate::memory::Memory;
-use crate::reads::{head_at, mark_behind, name_at, property_name_at, value_at};
+use crate::memory::{Memory, NodeRecord, PropertyRecord};
 use tape::{Head, Mark, Spot, Tape};
-use tree::counts::Counts;
+use tree::counts::{Counts, node_weight, property_weight};
 
 pub struct Live<'a> {
     memory: Memory<'a>,
-    ghost nodes_in: { memory.counts.nodes ≤ length memory.nodes.now },
-    ghost properties_in: { memory.counts.properties ≤ length memory.properties.now },
-    ghost size_in: { memory.size ≤ length memory.pool.now },
     ghost rows: { flat_rows (rows_of (held memory)) ≡ flat_rows (used_rows memory) },
     ghost cells: { flat_cells (cells_of (held memory)) ≡ flat_cells (used_cells memory) },
     ghost bytes: { bytes_of (held memory) ≡ used_bytes memory },
-    ghost weight: { memory.counts.weight ≡ weight_of (held memory) },
+    ghost weight: { memory.weight ≡ weight_of (held memory) },
     ghost room: { room_for memory ≡ true },
     ghost sound: { valid memory.boot (held memory) ≡ true },
 }
@@ -41,7 +36,11 @@ impl Tape for Live<'_> {
     ghost numbered = { λ s i k. (refl, refl) };
 
     fn counts(&self) -> Counts {
-        self.memory.counts
+        Counts {
+            nodes: self.memory.nodes.used,
+            properties: self.memory.properties.used,
+            weight: self.memory.weight,
+        }
     }
 
     fn boot_number(&self) -> u32 {
@@ -57,42 +56,106 @@ impl Tape for Live<'_> {
     }
 
     fn head(&self, s: Spot) -> Head {
-        head_at(&self.memory, s)
+        let r = self.memory.nodes.items[s.node];
+        let at = s.at + r.name;
+        let first = Mark {
+            node: s.node,
+            number: 0,
+            property: s.property,
+            at,
+        };
+        let next = Spot {
+            node: s.node + 1,
+            property: s.property + r.properties,
+            at: at + r.bytes,
+        };
+        Head {
+            depth: r.depth,
+            properties: r.properties,
+            first,
+            next,
+        }
     }
 
     fn name(&self, s: Spot) -> &[u8] {
-        name_at(&self.memory, s)
+        let r = self.memory.nodes.items[s.node];
+        self.memory.pool.part(s.at, r.name)
     }
 
     fn behind(&self, m: Mark) -> Mark {
-        mark_behind(&self.memory, m)
+        let r = self.memory.properties.items[m.property];
+        Mark {
+            node: m.node,
+            number: m.number + 1,
+            property: m.property + 1,
+            at: m.at + r.name + r.value,
+        }
     }
 
     fn property_name(&self, m: Mark) -> &[u8] {
-        property_name_at(&self.memory, m)
+        let r = self.memory.properties.items[m.property];
+        self.memory.pool.part(m.at, r.name)
     }
 
     fn value(&self, m: Mark) -> &[u8] {
-        value_at(&self.memory, m)
+        let r = self.memory.properties.items[m.property];
+        self.memory.pool.part(m.at + r.name, r.value)
     }
 
     fn insert_node(&mut self, s: Spot, depth: usize, name: &[u8]) {
-        put_node(&mut self.memory, s, depth, name);
+        let memory = &mut self.memory;
+        let one = [NodeRecord {
+            depth,
+            name: name.len(),
+            properties: 0,
+            bytes: 0,
+        }];
+        memory.nodes.insert(s.node, &one);
+        memory.pool.insert(s.at, name);
+        memory.weight += node_weight(name.len());
     }
 
     fn remove_node(&mut self, s: Spot) {
-        cut_node(&mut self.memory, s);
+        let memory = &mut self.memory;
+        let r = memory.nodes.items[s.node];
+        memory.nodes.remove(s.node, 1);
+        memory.pool.remove(s.at, r.name);
+        memory.weight -= node_weight(r.name);
     }
 
     fn insert_property(&mut self, s: Spot, name: &[u8], value: &[u8]) {
-        put_property(&mut self.memory, s, name, value);
+        let memory = &mut self.memory;
+        let mut r = memory.nodes.items[s.node];
+        let at = s.at + r.name;
+        r.properties += 1;
+        r.bytes += name.len() + value.len();
+        memory.nodes.items[s.node] = r;
+        let one = [PropertyRecord {
+            name: name.len(),
+            value: value.len(),
+        }];
+        memory.properties.insert(s.property, &one);
+        memory.pool.insert(at, name);
+        memory.pool.insert(at + name.len(), value);
+        memory.weight += property_weight(name.len(), value.len());
     }
 
     fn remove_property(&mut self, s: Spot, m: Mark) {
-        cut_property(&mut self.memory, s, m);
+        let memory = &mut self.memory;
+        let p = memory.properties.items[m.property];
+        let n = p.name + p.value;
+        let mut r = memory.nodes.items[s.node];
+        r.properties -= 1;
+        r.bytes -= n;
+        memory.nodes.items[s.node] = r;
+        memory.properties.remove(m.property, 1);
+        memory.pool.remove(m.at, n);
+        memory.weight -= property_weight(p.name, p.value);
     }
 
     fn overwrite(&mut self, m: Mark, value: &[u8]) {
-        write_value(&mut self.memory, m, value);
+        let memory = &mut self.memory;
+        let r = memory.properties.items[m.property];
+        memory.pool.overwrite(m.at + r.name, value);
     }
 }

@@ -1,5 +1,5 @@
 // Node records, property records and a byte pool, lent to a store.
-use tree::counts::Counts;
+use splices::lent::Lent;
 
 // A node: its depth, the length of its name, how many properties it has and how many bytes they take.
 #[derive(Clone, Copy)]
@@ -17,12 +17,11 @@ pub struct PropertyRecord {
     pub value: usize,
 }
 
-// The lent memory, and how much of it is in use.
+// The lent memory, what the tree in it weighs, and its boot CPU number.
 pub struct Memory<'a> {
-    pub nodes: &'a mut [NodeRecord],
-    pub properties: &'a mut [PropertyRecord],
-    pub pool: &'a mut [u8],
-    pub counts: Counts,
-    pub size: usize,
+    pub nodes: Lent<'a, NodeRecord>,
+    pub properties: Lent<'a, PropertyRecord>,
+    pub pool: Lent<'a, u8>,
+    pub weight: usize,
     pub boot: u32,
 }

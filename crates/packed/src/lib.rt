@@ -8,9 +8,7 @@ pub mod reading;
 pub mod region;
 
 // What holds of the blob of a list of nodes.
-pub fn packing_stands() -> u8
+pub fn packing_stands()
     ensures tokens { TokenLaws }
     ensures nodes { NodeLaws }
-{
-    0
-}
+{}

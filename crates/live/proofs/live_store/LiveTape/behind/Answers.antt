@@ -1,8 +1,25 @@
-use Rattle.live.proofs.Flat.{whole_from}
+use Rattle.std.proofs.Common.{arith}
+use Rattle.live.proofs.Kept.{at_mark, behind-is}
+use Rattle.live.proofs.Whole.{whole}
 use Rattle.live.proofs.live_store.LiveTape.behind.Goals as goal
 
-pub mark_behind-requires : goal.mark_behind-requires
-mark_behind-requires c =
-    let s = c.args.self.now in
-    let w = whole_from s.memory s.nodes_in s.properties_in s.size_in s.rows s.cells s.bytes s.weight s.room s.sound in
-    record { whole = w; on = c.requires }
+pub offset_bounds-self-m : goal.offset_bounds-self-m
+offset_bounds-self-m c = let f = at_mark c.args.self.now.memory (whole c.args.self.now) c.args.m c.requires in omega arith
+
+pub bounds-self-m : goal.bounds-self-m
+bounds-self-m c = let f = at_mark c.args.self.now.memory (whole c.args.self.now) c.args.m c.requires in f.inside
+
+pub overflow_add-result : goal.overflow_add-result
+overflow_add-result c = let f = at_mark c.args.self.now.memory (whole c.args.self.now) c.args.m c.requires in omega arith
+
+pub overflow_add-result-2 : goal.overflow_add-result-2
+overflow_add-result-2 c = let f = at_mark c.args.self.now.memory (whole c.args.self.now) c.args.m c.requires in omega arith
+
+pub overflow_add-result-3 : goal.overflow_add-result-3
+overflow_add-result-3 c = let f = at_mark c.args.self.now.memory (whole c.args.self.now) c.args.m c.requires in omega arith
+
+pub overflow_add-result-4 : goal.overflow_add-result-4
+overflow_add-result-4 c = let f = at_mark c.args.self.now.memory (whole c.args.self.now) c.args.m c.requires in omega arith
+
+pub returns : goal.returns
+returns c = let f = at_mark c.args.self.now.memory (whole c.args.self.now) c.args.m c.requires in behind-is c.args.self.now.memory (whole c.args.self.now) c.args.m c.requires _ _ f.name f.value

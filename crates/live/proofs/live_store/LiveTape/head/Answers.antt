@@ -1,8 +1,34 @@
-use Rattle.live.proofs.Flat.{whole_from}
+use Rattle.std.proofs.Common.{arith}
+use Rattle.live.proofs.Kept.{at_spot, spot_row, first-is, next-is}
+use Rattle.live.proofs.Whole.{whole}
 use Rattle.live.proofs.live_store.LiveTape.head.Goals as goal
 
-pub head_at-requires : goal.head_at-requires
-head_at-requires c =
-    let s = c.args.self.now in
-    let w = whole_from s.memory s.nodes_in s.properties_in s.size_in s.rows s.cells s.bytes s.weight s.room s.sound in
-    record { whole = w; here = c.requires }
+pub offset_bounds-self-s : goal.offset_bounds-self-s
+offset_bounds-self-s c = let f = at_spot c.args.self.now.memory (whole c.args.self.now) c.args.s c.requires in omega arith
+
+pub bounds-self-s : goal.bounds-self-s
+bounds-self-s c = let f = at_spot c.args.self.now.memory (whole c.args.self.now) c.args.s c.requires in f.inside
+
+pub overflow_add-at : goal.overflow_add-at
+overflow_add-at c = let f = at_spot c.args.self.now.memory (whole c.args.self.now) c.args.s c.requires in omega arith
+
+pub overflow_add-next : goal.overflow_add-next
+overflow_add-next c = let f = at_spot c.args.self.now.memory (whole c.args.self.now) c.args.s c.requires in omega arith
+
+pub overflow_add-next-2 : goal.overflow_add-next-2
+overflow_add-next-2 c = let f = at_spot c.args.self.now.memory (whole c.args.self.now) c.args.s c.requires in omega arith
+
+pub overflow_add-next-3 : goal.overflow_add-next-3
+overflow_add-next-3 c = let f = at_spot c.args.self.now.memory (whole c.args.self.now) c.args.s c.requires in omega arith
+
+pub returns : goal.returns
+returns c =
+    let m = c.args.self.now.memory in
+    let w = whole c.args.self.now in
+    let f = at_spot m w c.args.s c.requires in
+    record {
+      depth = λ j. (spot_row m w c.args.s c.requires j).depth;
+      properties = f.properties;
+      first = first-is m w c.args.s c.requires _ _ _ f.name f.properties f.bytes;
+      next = next-is m w c.args.s c.requires _ _ _ f.name f.properties f.bytes;
+    }

@@ -1,8 +1,16 @@
-use Rattle.live.proofs.Flat.{whole_from}
+use Rattle.std.proofs.Common.{arith, ◌∙◌}
+use Rattle.live.proofs.Kept.{at_spot, spot-name}
+use Rattle.live.proofs.Whole.{whole}
 use Rattle.live.proofs.live_store.LiveTape.name.Goals as goal
 
-pub name_at-requires : goal.name_at-requires
-name_at-requires c =
-    let s = c.args.self.now in
-    let w = whole_from s.memory s.nodes_in s.properties_in s.size_in s.rows s.cells s.bytes s.weight s.room s.sound in
-    record { whole = w; here = c.requires }
+pub offset_bounds-self-s : goal.offset_bounds-self-s
+offset_bounds-self-s c = let f = at_spot c.args.self.now.memory (whole c.args.self.now) c.args.s c.requires in omega arith
+
+pub bounds-self-s : goal.bounds-self-s
+bounds-self-s c = let f = at_spot c.args.self.now.memory (whole c.args.self.now) c.args.s c.requires in f.inside
+
+pub part-requires : goal.part-requires
+part-requires c = let f = at_spot c.args.self.now.memory (whole c.args.self.now) c.args.s c.requires in omega arith
+
+pub returns : goal.returns
+returns c = let f = at_spot c.args.self.now.memory (whole c.args.self.now) c.args.s c.requires in c.part.ensures ∙ spot-name c.args.self.now.memory (whole c.args.self.now) c.args.s c.requires _ f.name

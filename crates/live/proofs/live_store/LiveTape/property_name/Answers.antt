@@ -1,8 +1,16 @@
-use Rattle.live.proofs.Flat.{whole_from}
+use Rattle.std.proofs.Common.{arith, ◌∙◌}
+use Rattle.live.proofs.Kept.{at_mark, mark-name}
+use Rattle.live.proofs.Whole.{whole}
 use Rattle.live.proofs.live_store.LiveTape.property_name.Goals as goal
 
-pub property_name_at-requires : goal.property_name_at-requires
-property_name_at-requires c =
-    let s = c.args.self.now in
-    let w = whole_from s.memory s.nodes_in s.properties_in s.size_in s.rows s.cells s.bytes s.weight s.room s.sound in
-    record { whole = w; on = c.requires }
+pub offset_bounds-self-m : goal.offset_bounds-self-m
+offset_bounds-self-m c = let f = at_mark c.args.self.now.memory (whole c.args.self.now) c.args.m c.requires in omega arith
+
+pub bounds-self-m : goal.bounds-self-m
+bounds-self-m c = let f = at_mark c.args.self.now.memory (whole c.args.self.now) c.args.m c.requires in f.inside
+
+pub part-requires : goal.part-requires
+part-requires c = let f = at_mark c.args.self.now.memory (whole c.args.self.now) c.args.m c.requires in omega arith
+
+pub returns : goal.returns
+returns c = let f = at_mark c.args.self.now.memory (whole c.args.self.now) c.args.m c.requires in c.part.ensures ∙ mark-name c.args.self.now.memory (whole c.args.self.now) c.args.m c.requires _ f.name

@@ -4,5 +4,4 @@ use Rattle.live.proofs.live_store.LiveTape.start.Goals as goal
 
 pub returns : goal.returns
 unfolding cells_of bytes_of
-returns c =
-    refl
+returns c = refl
