@@ -14,7 +14,8 @@ use Rattle.blob.specs.Grammar.{Header}
 use Rattle.blob.specs.declared.types.Layout.{Layout}
 use Rattle.reader.specs.Format.{Blob, Root}
 use Rattle.reader.specs.Reading.{entries, sound}
-use Rattle.reader.specs.Verdict.{verdict, none, root_only, opened}
+use Rattle.tree.specs.Counting.{zero}
+use Rattle.reader.specs.Verdict.{verdict, root_only, opened}
 use Rattle.reader.proofs.Accepted.{raw, kept-raw, Lexed, accepted-whole}
 use Rattle.reader.proofs.Complete.{somes}
 use Rattle.reader.proofs.Exact.{exact}
@@ -59,7 +60,7 @@ apts (run_leave {p} {q} {ps} {es} n r) block h s =
     subst (Apts (strings block es)) (sym (pieces-leave p q [] ps block es n)) (tt, apts r block h s)
 
 -- from the root on
-accept-root : {es : Places} → Runs [] es → find order es (node_at root) ≡ Some [] → (o : ℕ) → Rises order es → Shorts es → nodes es ≤ 256 → properties es ≤ 1024 → weight es ≤ 24576 → Accepted [] none o (pieces [] [] es)
+accept-root : {es : Places} → Runs [] es → find order es (node_at root) ≡ Some [] → (o : ℕ) → Rises order es → Shorts es → nodes es ≤ 256 → properties es ≤ 1024 → weight es ≤ 24576 → Accepted [] zero o (pieces [] [] es)
 unfolding find pieces verdict somes spell behind_last total stem
 accept-root run_end f o r s a b d = absurd (some-none [] (sym f))
 accept-root (run_root {es} x) f o r s a b d =
@@ -162,7 +163,7 @@ module _ (t : Tree) (s : Sound t) where
       let k = length-append front (spelt P) in
       lexes (written t) N l (front ++ spelt P) c (sym k) (sym length-written) P front N a cut refl
 
-  taken : Accepted [] none 56 P
+  taken : Accepted [] zero 56 P
   unfolding P look
   taken = let c = counts in accept-root runs s.root 56 s.rises shorts c.0 c.1 c.2
 

@@ -17,8 +17,9 @@ use Rattle.tree.proofs.Maps.{same}
 use Rattle.tree.proofs.Places.{place-order}
 use Rattle.blob.specs.Tokens.{begin, property, end}
 use Rattle.blob.specs.declared.types.Refusal.{Refusal}
-use Rattle.reader.specs.declared.counts.Counts.{Counts}
-use Rattle.reader.specs.Verdict.{has, Open, opened, kids, with_node, with_property, node_fits, property_fits, verdict}
+use Rattle.tree.specs.Counting.{with_node, with_property, node_fits, property_fits}
+use Rattle.tree.specs.declared.counts.Counts.{Counts}
+use Rattle.reader.specs.Verdict.{has, Open, opened, kids, verdict}
 use Rattle.reader.proofs.Children.{stem-of}
 use Rattle.reader.proofs.Complete.{somes}
 use Rattle.reader.proofs.Distinct.{has_append}
@@ -87,13 +88,13 @@ has_push m n ns h =
 abbrev pub told : List Open → Counts → ℕ → List Piece → Result Counts Refusal
 told gs c o xs = verdict gs c (somes (spell o xs))
 
-entered : (g : Open) (gs : List Open) (c : Counts) (o : ℕ) (name : Bytes) (xs : List Piece) → node_name name ≡ true → has name (kids g) ≡ false → node_fits c g.path name ≡ true
-    → told (g ∷ gs) c o ((begin name, 0) ∷ xs) ≡ told (opened (g.path + 1 + length name) false [] ∷ opened g.path true (kids g ++ (name ∷ [])) ∷ gs) (with_node c name) (o + length (token_bytes (begin name) 0)) xs
+entered : (g : Open) (gs : List Open) (c : Counts) (o : ℕ) (name : Bytes) (xs : List Piece) → node_name name ≡ true → has name (kids g) ≡ false → node_fits c (g.path + 1 + length name) (length name) ≡ true
+    → told (g ∷ gs) c o ((begin name, 0) ∷ xs) ≡ told (opened (g.path + 1 + length name) false [] ∷ opened g.path true (kids g ++ (name ∷ [])) ∷ gs) (with_node c (length name)) (o + length (token_bytes (begin name) 0)) xs
 unfolding verdict somes spell
 entered g gs c o name xs good new room = rw (good, new, room)
 
-held : (g : Open) (gs : List Open) (c : Counts) (o i : ℕ) (name value : Bytes) (xs : List Piece) → g.children ≡ false → property_name name ≡ true → has name g.names ≡ false → property_fits c name value ≡ true
-    → told (g ∷ gs) c o ((property name value, i) ∷ xs) ≡ told (opened g.path false (g.names ++ (name ∷ [])) ∷ gs) (with_property c name value) (o + length (token_bytes (property name value) i)) xs
+held : (g : Open) (gs : List Open) (c : Counts) (o i : ℕ) (name value : Bytes) (xs : List Piece) → g.children ≡ false → property_name name ≡ true → has name g.names ≡ false → property_fits c (length name) (length value) ≡ true
+    → told (g ∷ gs) c o ((property name value, i) ∷ xs) ≡ told (opened g.path false (g.names ++ (name ∷ [])) ∷ gs) (with_property c (length name) (length value)) (o + length (token_bytes (property name value) i)) xs
 unfolding verdict somes spell
 held g gs c o i name value xs early good new room = rw (early, good, new, room)
 
@@ -162,20 +163,20 @@ accept (run_property {p} {n} {v} {ps} {es} good x) [] c o block h t r s m = absu
 accept (run_property {p} {n} {v} {ps} {es} good x) (g ∷ gs) c o block h t r s m =
     let a = and_parts (leb (length p) 255) (leb (length v) 4096) s.0 in
     let b = leb-true (length v) 4096 a.1 in
-    let f : property_fits c n v ≡ true = let y = m.properties in let z = m.weight in grind (arith, nat_tests) in
+    let f : property_fits c (length n) (length v) ≡ true = let y = m.properties in let z = m.weight in grind (arith, nat_tests) in
     let w = held g gs c o (name_offset block n) n v (pieces (p ∷ ps) (with_name block n) es) (early g p n v es h.0) good (own_new g p n v es h.0) f in
-    let k : Room (with_property c n v) es = record { some = m.some; nodes = omega (arith, m.nodes); properties = omega (arith, m.properties); weight = omega (arith, m.weight) } in
-    let z = accept x (opened g.path false (g.names ++ (n ∷ [])) ∷ gs) (with_property c n v) (o + length (token_bytes (property n v) (name_offset block n))) (with_name block n) (past-property g p n v es h.0 r, pasts_tail (property_at p n, v) es gs ps r h.1) (below-tail (node_at root) (property_at p n, v) es t r) r.1 s.1 k in
+    let k : Room (with_property c (length n) (length v)) es = record { some = m.some; nodes = omega (arith, m.nodes); properties = omega (arith, m.properties); weight = omega (arith, m.weight) } in
+    let z = accept x (opened g.path false (g.names ++ (n ∷ [])) ∷ gs) (with_property c (length n) (length v)) (o + length (token_bytes (property n v) (name_offset block n))) (with_name block n) (past-property g p n v es h.0 r, pasts_tail (property_at p n, v) es gs ps r h.1) (below-tail (node_at root) (property_at p n, v) es t r) r.1 s.1 k in
     (z.0, w ∙ z.1)
 accept (run_node {p} {q} {ps} {es} e is good x) [] c o block h t r s m = absurd h
 accept (run_node {p} {q} {ps} {es} e is good x) (g ∷ gs) c o block h t r s m =
     let a = and_parts (leb (length q) 255) true s.0 in
     let b = leb-true (length q) 255 a.0 in
     let d : length q ≡ length (stem p) + 1 + length (leaf q) = ap length (sym is) ∙ child_length p (leaf q) in
-    let f : node_fits c g.path (leaf q) ≡ true = let y = m.nodes in let z = m.weight in let u = h.0.path in grind (arith, nat_tests) in
+    let f : node_fits c (g.path + 1 + length (leaf q)) (length (leaf q)) ≡ true = let y = m.nodes in let z = m.weight in let u = h.0.path in grind (arith, nat_tests) in
     let w = entered g gs c o (leaf q) (pieces (q ∷ p ∷ ps) block es) good (kin-new g p q [] es is good h.0) f in
-    let k : Room (with_node c (leaf q)) es = record { some = omega arith; nodes = omega (arith, m.nodes); properties = omega (arith, m.properties); weight = omega (arith, m.weight) } in
-    let z = accept x (opened (g.path + 1 + length (leaf q)) false [] ∷ opened g.path true (kids g ++ (leaf q ∷ [])) ∷ gs) (with_node c (leaf q)) (o + length (token_bytes (begin (leaf q)) 0)) block
+    let k : Room (with_node c (length (leaf q))) es = record { some = omega arith; nodes = omega (arith, m.nodes); properties = omega (arith, m.properties); weight = omega (arith, m.weight) } in
+    let z = accept x (opened (g.path + 1 + length (leaf q)) false [] ∷ opened g.path true (kids g ++ (leaf q ∷ [])) ∷ gs) (with_node c (length (leaf q))) (o + length (token_bytes (begin (leaf q)) 0)) block
     (past_child g p q [] es is good h.0, (past-parent g p q [] es is good h.0 r, pasts_tail (node_at q, []) es gs ps r h.1)) (below-tail (node_at root) (node_at q, []) es t r) r.1 s.1 k in
     (z.0, ap (told (g ∷ gs) c o) (pieces-node p q [] ps block es e) ∙ w ∙ z.1)
 accept (run_leave {p} {q} {ps} {es} n x) [] c o block h t r s m = absurd h
