@@ -27,7 +27,7 @@ pub fn compare_names(a: &[u8], b: &[u8]) -> Ordering
 fn ranked(b: u8) -> u16
     ensures { result ≡ rank b }
 {
-    if b == SLASH { 0 } else { b as u16 + 1 }
+    if b == SLASH { 0 } else { u16::from(b) + 1 }
 }
 
 // Where the last name begins: behind the last slash.
