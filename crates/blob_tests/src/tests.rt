@@ -119,7 +119,10 @@ fn sizes_bounded(rt: HostRuntime) {
 #[test]
 fn tokens_in_order(rt: HostRuntime) {
     assert_eq!(rt; token(&SAMPLE, 56), Some((Kind::Begin { name: 0 }, 64)));
-    assert_eq!(rt; token(&SAMPLE, 64), Some((Kind::Property { name: 2, value: 1 }, 80)));
+    assert_eq!(rt;
+        token(&SAMPLE, 64),
+        Some((Kind::Property { name: 2, value: 1 }, 80))
+    );
     assert_eq!(rt; token(&SAMPLE, 80), Some((Kind::Nop, 84)));
     assert_eq!(rt; token(&SAMPLE, 84), Some((Kind::End, 88)));
     assert_eq!(rt; token(&SAMPLE, 88), Some((Kind::Finish, 92)));
