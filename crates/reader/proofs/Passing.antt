@@ -39,7 +39,7 @@ pub record Stepped (r : Reader) (p : ℕ) (t : TheToken) (n : ℕ) : Type 0 wher
 module _ (r : Reader) (p : ℕ) (e : Refusal) where
   pub stepped : (o : Option Step) (s : Step) (t : TheToken) → step_of o ≡ token_at r.blob.bytes.now r.blob.layout p → IfSome o (λ x. (p + 4 ≤ x.next) × (x.next ≤ r.blob.layout.end)) → Ok s ≡ ok_or o e
       → s.token ≡ t → Stepped r p t s.next
-  stepped None s t f b h k = absurd (let z : ◌≡◌ {A = ℕ} 0 1 = cc in omega arith)
+  stepped None s t f b h k = absurd (cc)
   stepped (Some x) s t f b h k =
       let same : x ≡ s = cc in
       record {
@@ -50,7 +50,7 @@ module _ (r : Reader) (p : ℕ) (e : Refusal) where
 
   pub unstepped : (o : Option Step) (f : Refusal) → step_of o ≡ token_at r.blob.bytes.now r.blob.layout p → Err f ≡ ok_or o e → (f ≡ e) × ((gs : List Open) → from r gs p ≡ Err (Token p))
   unstepped None f g h = (cc, λ gs. verdict-none r p gs (sym g))
-  unstepped (Some x) f g h = absurd (let z : ◌≡◌ {A = ℕ} 0 1 = cc in omega arith)
+  unstepped (Some x) f g h = absurd (cc)
 
 -- a node's token: its name is bad or used, it passes a limit, or it is entered
 module _ (r : Reader) (at n : ℕ) (g : Open) (gs : List Open) (name : Bytes) (token : token_at r.blob.bytes.now r.blob.layout at ≡ Some (begin name, n)) where
@@ -71,10 +71,10 @@ module _ (r : Reader) (at n : ℕ) (g : Open) (gs : List Open) (name : Bytes) (t
 -- what is counted within the limits, or its refusal
 pub counted : (fits : Bool) (c d : Counts) (e : Refusal) → Ok d ≡ ok_or (cond fits (Some c) None) e → (fits ≡ true) × (d ≡ c)
 counted true c d e h = (refl, cc)
-counted false c d e h = absurd (let z : ◌≡◌ {A = ℕ} 0 1 = cc in omega arith)
+counted false c d e h = absurd (cc)
 
 pub uncounted : (fits : Bool) (c : Counts) (e f : Refusal) → Err f ≡ ok_or (cond fits (Some c) None) e → (fits ≡ false) × (f ≡ e)
-uncounted true c e f h = absurd (let z : ◌≡◌ {A = ℕ} 0 1 = cc in omega arith)
+uncounted true c e f h = absurd (cc)
 uncounted false c e f h = (refl, cc)
 
 -- the names of the children alone
