@@ -84,10 +84,7 @@ fn blocks_refused(rt: HostRuntime) {
         "the strings block passes the total size"
     );
     b = SAMPLE;
-    b[36] = 255;
-    b[37] = 255;
-    b[38] = 255;
-    b[39] = 255;
+    b[36..40].fill(255);
     assert_eq!(rt;
         refusal(&b),
         Some(Refusal::Blocks),

@@ -15,7 +15,8 @@ pub struct Tokens<'a> {
 }
 
 impl<'a> Tokens<'a> {
-    // The next item, or nothing where the end of the block, or a fault, has been reached. `next` promises no less.
+    // The next item, or nothing where the end of the block, or a fault, has been reached.
+    // `next` promises no less; it stays beside it since its clauses have names, which callers' proofs cite.
     pub fn advance(&mut self) -> Option<Item<'a>>
         ensures hands { Handed result (ahead self.old.blob.bytes.now self.old.blob.layout self.old.next) (ahead self.new.blob.bytes.now self.new.blob.layout self.new.next) }
         ensures blob { self.new.blob ≡ self.old.blob }
