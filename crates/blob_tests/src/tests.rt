@@ -12,27 +12,35 @@ const SAMPLE: [u8; 95] = [
 ];
 
 fn refusal(bytes: &[u8]) -> Option<Refusal> {
-    match check_header(bytes) {
-        Ok(_) => None,
-        Err(e) => Some(e),
-    }
+    check_header(bytes).err()
 }
 
-// The number, the lengths of name and value and the end of the token at `p`.
-fn token(bytes: &[u8], p: usize) -> Option<(u32, usize, usize, usize)> {
-    let Ok(layout) = check_header(bytes) else {
-        return None;
-    };
+// What a token is, with the lengths of its name and its value.
+#[derive(Clone, Copy, PartialEq, Eq, Debug)]
+enum Kind {
+    Begin { name: usize },
+    Property { name: usize, value: usize },
+    End,
+    Nop,
+    Finish,
+}
+
+// The token at `p`, and where the next one starts.
+fn token(bytes: &[u8], p: usize) -> Option<(Kind, usize)> {
+    let layout = check_header(bytes).ok()?;
     let blob = Blob { bytes, layout };
     let step = blob.token_at(p)?;
-    let next = step.next;
-    Some(match step.token {
-        Token::Begin { name } => (1, name.len(), 0, next),
-        Token::Property { name, value } => (3, name.len(), value.len(), next),
-        Token::End => (2, 0, 0, next),
-        Token::Nop => (4, 0, 0, next),
-        Token::Finish => (9, 0, 0, next),
-    })
+    let kind = match step.token {
+        Token::Begin { name } => Kind::Begin { name: name.len() },
+        Token::Property { name, value } => Kind::Property {
+            name: name.len(),
+            value: value.len(),
+        },
+        Token::End => Kind::End,
+        Token::Nop => Kind::Nop,
+        Token::Finish => Kind::Finish,
+    };
+    Some((kind, step.next))
 }
 
 #[test]
@@ -76,10 +84,7 @@ fn blocks_refused(rt: HostRuntime) {
         "the strings block passes the total size"
     );
     b = SAMPLE;
-    b[36] = 255;
-    b[37] = 255;
-    b[38] = 255;
-    b[39] = 255;
+    b[36..40].fill(255);
     assert_eq!(rt;
         refusal(&b),
         Some(Refusal::Blocks),
@@ -110,11 +115,14 @@ fn sizes_bounded(rt: HostRuntime) {
 
 #[test]
 fn tokens_in_order(rt: HostRuntime) {
-    assert_eq!(rt; token(&SAMPLE, 56), Some((1, 0, 0, 64)));
-    assert_eq!(rt; token(&SAMPLE, 64), Some((3, 2, 1, 80)));
-    assert_eq!(rt; token(&SAMPLE, 80), Some((4, 0, 0, 84)));
-    assert_eq!(rt; token(&SAMPLE, 84), Some((2, 0, 0, 88)));
-    assert_eq!(rt; token(&SAMPLE, 88), Some((9, 0, 0, 92)));
+    assert_eq!(rt; token(&SAMPLE, 56), Some((Kind::Begin { name: 0 }, 64)));
+    assert_eq!(rt;
+        token(&SAMPLE, 64),
+        Some((Kind::Property { name: 2, value: 1 }, 80))
+    );
+    assert_eq!(rt; token(&SAMPLE, 80), Some((Kind::Nop, 84)));
+    assert_eq!(rt; token(&SAMPLE, 84), Some((Kind::End, 88)));
+    assert_eq!(rt; token(&SAMPLE, 88), Some((Kind::Finish, 92)));
 }
 
 #[test]

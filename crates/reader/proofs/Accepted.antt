@@ -56,7 +56,7 @@ module _ (bs : Bytes) (l : Layout) where
   lexed ((at, Some t) ∷ ts) p f = (f.0, (f.1.0, f.1.1, lexed ts f.1.0 f.1.2))
 
 never : {A : Type 0} (e : Refusal) (c : Counts) → ◌≡◌ {A = Result Counts Refusal} (Err e) (Ok c) → A
-never e c h = let z : ◌≡◌ {A = ℕ} 0 1 = cc in absurd (omega arith)
+never e c h = absurd (cc)
 
 -- what is left of the body of an open node, and then K
 record Rest (g : Open) (path : Bytes) (xs : Spelt) (es : List Entry) (K : Spelt → List Entry → Type 0) : Type 0 where
@@ -252,7 +252,7 @@ module _ (bs : Bytes) (l : Layout) (ts : Tokens) (r : Counts)
   step [] (q ∷ ps) o m x e = absurd m
   step (g ∷ gs) [] o m x e = absurd m
   step [] [] None m x e = never _ r e
-  step [] [] (Some (begin name)) m x e = let z : ◌≡◌ {A = ℕ} 0 1 = grind (arith, nat_tests) in absurd (omega arith)
+  step [] [] (Some (begin name)) m x e = absurd (grind (arith, nat_tests))
   step [] [] (Some (property name value)) m x e = never _ r e
   step [] [] (Some end) m x e = never _ r e
   step [] [] (Some nop) m x e = skipped [] [] m x e
@@ -304,7 +304,7 @@ module _ (bs : Bytes) (l : Layout) (ts : Tokens) (r : Counts) (p : ℕ) where
       → Whole bs l p (sound_on p o (sound ts)) (raw_on p o (raw ts)) r
   start None x ih e = never _ r e
   start (Some (begin [])) x ih e = top x e
-  start (Some (begin (b ∷ name))) x ih e = let z : ◌≡◌ {A = ℕ} 0 1 = grind (arith, nat_tests) in absurd (omega arith)
+  start (Some (begin (b ∷ name))) x ih e = absurd (grind (arith, nat_tests))
   start (Some (property name value)) x ih e = never _ r e
   start (Some end) x ih e = never _ r e
   start (Some nop) x ih e = let w = ih x.0 x.2 e in record { tree = w.tree; fills = fill_more x.1 w.fills; within = w.within; tally = w.tally }

@@ -58,7 +58,7 @@ module _ (bs : Bytes) (boot : ℕ) (es : List Entry) where
 
   -- what is accepted, by the header and by the verdict
   by-verdict : (l : Layout) → header bs ≡ Ok l → (r : Result Counts Refusal) → verdict [] zero (tokens_from bs l l.start) ≡ r → given {A = ℕ × List Entry} (l.boot, entries_of bs l) r ≡ Ok (boot, es) → Blob bs boot es × (within es ≡ true)
-  by-verdict l h (Err e) v g = let z : ◌≡◌ {A = ℕ} 0 1 = cc in absurd (omega arith)
+  by-verdict l h (Err e) v g = absurd (cc)
   by-verdict l h (Ok c) v g =
       let w = accepted-whole bs l (tokens_from bs l l.start) c l.start (lexed bs l (tokens_from bs l l.start) l.start (tokens-follow bs l l.start)) v in
       let both : ◌≡◌ {A = ℕ × List Entry} (l.boot, entries_of bs l) (boot, es) = cc in
@@ -76,7 +76,7 @@ module _ (bs : Bytes) (boot : ℕ) (es : List Entry) where
       )
 
   by_header : (r : Result Layout Refusal) → header bs ≡ r → structure bs r ≡ Ok (boot, es) → Blob bs boot es × (within es ≡ true)
-  by_header (Err e) h g = let z : ◌≡◌ {A = ℕ} 0 1 = cc in absurd (omega arith)
+  by_header (Err e) h g = absurd (cc)
   by_header (Ok l) h g = by-verdict l h (verdict [] zero (tokens_from bs l l.start)) refl g
 
 unique : (bs : Bytes) (b d : ℕ) (es fs : List Entry) → Blob bs b es → Blob bs d fs → (b ≡ d) × (es ≡ fs)

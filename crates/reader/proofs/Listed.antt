@@ -3,6 +3,7 @@ use Rattle.std.proofs.Common.{◌≡◌, ℕ, ◌<◌, true, false, not, List, [
 use Rattle.std.proofs.lemmas.Bool.Decides.{nat_tests}
 use Rattle.std.proofs.lemmas.Slice.Eq.{bytes_eq-Decides}
 use Rattle.std.proofs.lemmas.Bool.{and_parts, and_from, or_parts, or_from, both_ways, cases_Bool, true≢false}
+use Rattle.std.proofs.ByRecursion.{All-append, All-weaker}
 use Rattle.std.specs.List.{AllByRecursion}
 use Rattle.std.specs.Str.{bytes_eq}
 use Rattle.names.specs.Names.{each, node_name}
@@ -50,14 +51,6 @@ among-push : (k : Place) (es : List Entry) (seen : List Place) → among_places 
 unfolding push
 among-push k [] seen a = a
 among-push k (e ∷ es) seen a = among-push k es (e.place ∷ seen) (let h = a in grind (arith, nat_tests))
-
-all_append : (P : Entry → Type 0) (es fs : List Entry) → AllByRecursion P es → AllByRecursion P fs → AllByRecursion P (es ++ fs)
-all_append P [] fs a b = b
-all_append P (e ∷ es) fs a b = (a.0, all_append P es fs a.1 b)
-
-all_map : {A : Type 0} (P Q : A → Type 0) (xs : List A) → ((x : A) → P x → Q x) → AllByRecursion P xs → AllByRecursion Q xs
-all_map P Q [] f a = tt
-all_map P Q (x ∷ xs) f a = (f x a.0, all_map P Q xs f a.1)
 
 -- ---- at a path or below it
 
@@ -127,9 +120,9 @@ module _ {path : Bytes} where
   props-listed (a_property {p} {name} {value} {xs} {ys} {es} {ns} good rest) seen props here text own d s =
       let q = and_parts (short (property_entry p path name value)) (each short es) s in
       let new = distinct_apart props name ns d in
-      let free : among_places (property_at path name) seen ≡ false = unseen (property_at path name) seen (all_map _ _ seen (λ k f e. both_ways (has name props) new (f name (sym e))) own) in
+      let free : among_places (property_at path name) seen ≡ false = unseen (property_at path name) seen (All-weaker _ _ (λ k f e. both_ways (has name props) new (f name (sym e))) seen own) in
       let more : Own (property_at path name ∷ seen) path (props ++ (name ∷ [])) =
-      ((λ m e. subst (λ z. has z (props ++ (name ∷ [])) ≡ true) (some_same m (ap (λ k. k.1) e)) (has_last name props)), all_map _ _ seen (λ k f m e. has_more m name props (f m e)) own) in
+      ((λ m e. subst (λ z. has z (props ++ (name ∷ [])) ≡ true) (some_same m (ap (λ k. k.1) e)) (has_last name props)), All-weaker _ _ (λ k f m e. has_more m name props (f m e)) seen own) in
       and_from _ _
       (and_from _ _ (and_from _ _ (and_from _ _ text good) (and_from _ _ q.0 refl)) (and_from _ _ (ap not free) here))
       (props-listed rest (property_at path name ∷ seen) (props ++ (name ∷ [])) (let h = here in grind (arith, nat_tests)) text more (distinct_shift props name ns ∙ d) q.1)
@@ -148,12 +141,12 @@ mutual
 
   body_below : {path : Bytes} {xs : Spelt} {es : List Entry} {zs : Spelt} → Body path xs es zs → stem path ≡ path → AllByRecursion (λ e. Below path e.place.0) es
   body_below (a_body {path} {xs} {ys} {zs} {ps} {ks} props d nodes e) s =
-      all_append (λ x. Below path x.place.0) ps ks (all_map _ _ ps (λ x at. subst (Below path) (sym at) (below_self path)) (props-paths props)) (nodes-below nodes s)
+      All-append (λ x. Below path x.place.0) ps ks (All-weaker _ _ (λ x at. subst (Below path) (sym at) (below_self path)) ps (props-paths props)) (nodes-below nodes s)
 
   nodes-below : {path : Bytes} {xs : Spelt} {es : List Entry} {ns : List Bytes} {zs : Spelt} → Nodes path xs es ns zs → stem path ≡ path → AllByRecursion (λ e. Below path e.place.0) es
   nodes-below no_node s = tt
   nodes-below (more_nodes {path} {name} {xs} {ys} {zs} {es} {fs} node rest) s =
-      all_append (λ x. Below path x.place.0) es fs (all_map _ _ es (λ x b. below_up path name x.place.0 s b) (node-below node)) (nodes-below rest s)
+      All-append (λ x. Below path x.place.0) es fs (All-weaker _ _ (λ x b. below_up path name x.place.0 s b) es (node-below node)) (nodes-below rest s)
 
 -- ---- all of it in a good order
 
@@ -169,25 +162,25 @@ named-child path name text good =
 
 kin-inside : (q : Bytes) (seen : List Place) → stem q ≡ q → Fresh seen q → Kin (node_at q ∷ seen) q []
 unfolding Kin Fresh
-kin-inside q seen s fresh m pm lm new = (λ b. below-longer q m lm b, all_map _ _ seen (λ k f b. f (below_up q m k.0 s b)) fresh)
+kin-inside q seen s fresh m pm lm new = (λ b. below-longer q m lm b, All-weaker _ _ (λ k f b. f (below_up q m k.0 s b)) seen fresh)
 
 own-inside : (q : Bytes) (seen : List Place) → Fresh seen q → Own (node_at q ∷ seen) q []
 unfolding Own Fresh
 own-inside q seen fresh = (
-  (λ m e. let z : ◌≡◌ {A = Option Bytes} None (Some m) = ap (λ k. k.1) e in let y : ◌≡◌ {A = ℕ} 0 1 = cc in absurd (omega arith)),
-  all_map _ _ seen (λ k f m e. absurd (f (subst (Below q) (sym (ap (λ l. l.0) e)) (below_self q)))) fresh,
+  (λ m e. let z : ◌≡◌ {A = Option Bytes} None (Some m) = ap (λ k. k.1) e in absurd (cc)),
+  All-weaker _ _ (λ k f m e. absurd (f (subst (Below q) (sym (ap (λ l. l.0) e)) (below_self q)))) seen fresh,
 )
 
 kin-props : (path : Bytes) (ps : List Entry) (seen : List Place) (kids : List Bytes) → AllByRecursion (λ e. e.place.0 ≡ path) ps → Kin seen path kids → Kin (push ps seen) path kids
 unfolding Kin Fresh
 kin-props path ps seen kids at kin m pm lm new =
-    all_push (λ k. Below (child path m) k.0 → ⊥) ps seen (all_map _ _ ps (λ e h b. below-longer path m lm (subst (Below (child path m)) h b)) at) (kin m pm lm new)
+    all_push (λ k. Below (child path m) k.0 → ⊥) ps seen (All-weaker _ _ (λ e h b. below-longer path m lm (subst (Below (child path m)) h b)) ps at) (kin m pm lm new)
 
 kin-node : (path name : Bytes) (es : List Entry) (seen : List Place) (kids : List Bytes) → node_name name ≡ true → AllByRecursion (λ e. Below (child path name) e.place.0) es → Kin seen path kids → Kin (push es seen) path (kids ++ (name ∷ []))
 unfolding Kin Fresh
 kin-node path name es seen kids good below kin m pm lm new =
     let h = has-less m name kids new in
-    all_push (λ k. Below (child path m) k.0 → ⊥) es seen (all_map _ _ es (λ e b c. below_apart path name m e.place.0 (node_names name good).0 pm h.1 b c) below) (kin m pm lm h.0)
+    all_push (λ k. Below (child path m) k.0 → ⊥) es seen (All-weaker _ _ (λ e b c. below_apart path name m e.place.0 (node_names name good).0 pm h.1 b c) es below) (kin m pm lm h.0)
 
 listed-none : (seen : List Place) → listed_from seen [] ≡ true
 unfolding listed_from
@@ -198,7 +191,7 @@ among_first k seen = let s = same_self k in grind (arith, nat_tests)
 
 fresh-unseen : (seen : List Place) (q : Bytes) → Fresh seen q → among_places (node_at q) seen ≡ false
 unfolding Fresh
-fresh-unseen seen q fresh = unseen (node_at q) seen (all_map _ _ seen (λ k f e. f (subst (Below q) (ap (λ l. l.0) e) (below_self q))) fresh)
+fresh-unseen seen q fresh = unseen (node_at q) seen (All-weaker _ _ (λ k f e. f (subst (Below q) (ap (λ l. l.0) e) (below_self q))) seen fresh)
 
 kin-fresh : (seen : List Place) (path : Bytes) (kids : List Bytes) (name : Bytes) → Kin seen path kids → plain name ≡ true → 0 < length name → has name kids ≡ false → Fresh seen (child path name)
 unfolding Kin
@@ -243,5 +236,5 @@ unfolding path_text Own Kin Fresh
 root-listed (a_root {p} {q} {r} {xs} {es} body) w =
     let s = (and_parts _ (each short (node_entry p root ∷ es)) w).1 in
     body-listed body (node_at root ∷ []) (among_first (node_at root) []) refl
-    ((λ m e. let z : ◌≡◌ {A = Option Bytes} None (Some m) = ap (λ k. k.1) e in let y : ◌≡◌ {A = ℕ} 0 1 = cc in absurd (omega arith)), tt)
+    ((λ m e. let z : ◌≡◌ {A = Option Bytes} None (Some m) = ap (λ k. k.1) e in absurd (cc)), tt)
     (λ m pm lm new. (below-longer root m lm, tt)) s

@@ -1,10 +1,11 @@
 -- One name more in the table. Assumes nothing.
-use Rattle.std.proofs.Common.{◌≡◌, ℕ, ◌+◌, ◌-◌, ◌<◌, ◌≤◌, List, [], ◌∷◌, ◌++◌, length, take, drop, Some, sym, ap, ◌∙◌, append_assoc, arith, length-append}
+use Rattle.std.proofs.Common.{◌≡◌, ℕ, ◌+◌, ◌-◌, ◌≤◌, List, [], ◌∷◌, ◌++◌, length, take, drop, Some, sym, ap, ◌∙◌, append_assoc, arith, length-append}
 use Rattle.std.proofs.lemmas.List.{take-append-drop, take-append-le, drop-append-le}
 use Rattle.tree.specs.Places.{Bytes}
 use Rattle.tree.specs.Numbers.{be32}
 use Rattle.blob.specs.Grammar.{Text}
 use Rattle.blob.specs.Tokens.{begin, property, token_at}
+use Rattle.blob.specs.declared.blob.Blob.{Blob}
 use Rattle.blob.specs.declared.types.Layout.{Layout}
 use Rattle.blob.proofs.Shapes.{token-sound}
 use Rattle.reader.specs.Seen.{At, Spells}
@@ -26,6 +27,15 @@ property-stands bs l p name value n e = let h = token-sound bs l p (property nam
 
 pub node-stands : (bs : Bytes) (l : Layout) (p : ℕ) (name : Bytes) (n : ℕ) → token_at bs l p ≡ Some (begin name, n) → At bs (p + 4) name
 node-stands bs l p name n e = let h = token-sound bs l p (begin name) n e in text-stands bs _ _ name h.text
+
+-- a property's numbers lie within the blob
+pub property_within : (b : Blob) (p : ℕ) (name value : Bytes) (n : ℕ) → token_at b.bytes.now b.layout p ≡ Some (property name value, n) → p + 12 ≤ length b.bytes.now
+property_within b p name value n e =
+    let h = token-sound b.bytes.now b.layout p (property name value) n e in
+    let k = h.next in
+    let w = h.held in
+    let s = b.structure_within in
+    omega arith
 
 -- a name is put on top of the table
 pub push-named : (bs : Bytes) (base o : ℕ) (name : Bytes) (ns : List Bytes) (was is : List ℕ) → base ≤ length was → is ≡ was ++ (o ∷ []) → Spells bs (drop base was) ns → At bs o name

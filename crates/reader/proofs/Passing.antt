@@ -1,5 +1,5 @@
 -- One token of the reading, and what a child's body leaves. Assumes nothing.
-use Rattle.std.proofs.Common.{◌≡◌, ℕ, ◌+◌, ◌-◌, ◌≤◌, Bool, true, false, cond, List, [], ◌∷◌, ◌++◌, length, take, drop, Some, None, Ok, Err, Option, Result, IfSome, refl, sym, ap, ◌∙◌, subst, arith, length-take}
+use Rattle.std.proofs.Common.{◌≡◌, ℕ, ◌+◌, ◌≤◌, Bool, true, false, cond, List, [], ◌∷◌, ◌++◌, length, take, drop, Some, None, Ok, Err, Option, Result, IfSome, refl, sym, ap, ◌∙◌, subst, arith, length-take}
 use Rattle.std.specs.Option.{ok_or}
 use Rattle.std.proofs.lemmas.List.{take-take, drop_all}
 use Rattle.names.specs.Names.{node_name}
@@ -9,7 +9,6 @@ use Rattle.tree.specs.declared.counts.Counts.{Counts}
 use Rattle.blob.specs.Lexing.{tokens_from}
 use Rattle.blob.specs.Tokens.{Tok, begin, tok_of, step_of, token_at}
 use Rattle.blob.specs.declared.blob.Blob.{Blob}
-use Rattle.blob.specs.declared.types.Layout.{Layout}
 use Rattle.blob.specs.declared.types.Refusal.{Refusal}
 use Rattle.blob.specs.declared.types.Step.{Step}
 use Rattle.blob.specs.declared.types.Token.{Token as TheToken}
@@ -21,34 +20,37 @@ use Rattle.reader.specs.Seen.{Spells}
 use Rattle.reader.specs.Verdict.{has, Open, opened, kids, next, follow, verdict}
 
 module _ (r : Reader) (p : ℕ) (gs : List Open) where
-  pub verdict-none : token_at r.blob.bytes.now r.blob.layout p ≡ None → from r gs p ≡ Err (Token p)
+  verdict-none : token_at r.blob.bytes.now r.blob.layout p ≡ None → from r gs p ≡ Err (Token p)
   unfolding verdict
   verdict-none e = rw (tokens_none r.blob.bytes.now r.blob.layout p e)
 
-  pub verdict-some : (t : Tok) (n : ℕ) → token_at r.blob.bytes.now r.blob.layout p ≡ Some (t, n)
+  verdict-some : (t : Tok) (n : ℕ) → token_at r.blob.bytes.now r.blob.layout p ≡ Some (t, n)
       → from r gs p ≡ follow (next gs r.counts p t) (λ hs d. verdict hs d (tokens_from r.blob.bytes.now r.blob.layout n))
   unfolding verdict
   verdict-some t n e = rw (tokens-some r.blob.bytes.now r.blob.layout p t n e)
 
--- the step to the token at p, or the refusal that there is none
-module _ (bs : Bytes) (l : Layout) (p : ℕ) (o : Option Step) (e : Refusal) (found : step_of o ≡ token_at bs l p) where
-  pub step-there : (s : Step) (t : TheToken) → IfSome o (λ x. (p + 4 ≤ x.next) × (x.next ≤ l.end)) → Ok s ≡ ok_or o e → s.token ≡ t
-      → (token_at bs l p ≡ Some (tok_of t, s.next)) × (p + 4 ≤ s.next) × (s.next ≤ l.end)
-  step-there s t b h k = go o found b h
-    where
-      go : (q : Option Step) → step_of q ≡ token_at bs l p → IfSome q (λ x. (p + 4 ≤ x.next) × (x.next ≤ l.end)) → Ok s ≡ ok_or q e
-          → (token_at bs l p ≡ Some (tok_of t, s.next)) × (p + 4 ≤ s.next) × (s.next ≤ l.end)
-      go None f c h = absurd (let z : ◌≡◌ {A = ℕ} 0 1 = cc in omega arith)
-      go (Some x) f c h =
-          let same : x ≡ s = cc in
-          (sym f ∙ ap (λ y. Some (tok_of y.token, y.next)) same ∙ ap (λ y. Some (tok_of y, s.next)) k, subst (λ y. p + 4 ≤ y.next) same c.0, subst (λ y. y.next ≤ l.end) same c.1)
+-- what the token t at p, behind which n stands, makes of the reading
+pub record Stepped (r : Reader) (p : ℕ) (t : TheToken) (n : ℕ) : Type 0 where
+  pub rises : p + 4 ≤ n
+  pub stays : n ≤ r.blob.layout.end
+  pub reads : (gs : List Open) → from r gs p ≡ follow (next gs r.counts p (tok_of t)) (λ hs d. verdict hs d (tokens_from r.blob.bytes.now r.blob.layout n))
 
-  pub step_none : (f : Refusal) → Err f ≡ ok_or o e → (token_at bs l p ≡ None) × (f ≡ e)
-  step_none f h = go o found h
-    where
-      go : (q : Option Step) → step_of q ≡ token_at bs l p → Err f ≡ ok_or q e → (token_at bs l p ≡ None) × (f ≡ e)
-      go None g h = (sym g, cc)
-      go (Some x) g h = absurd (let z : ◌≡◌ {A = ℕ} 0 1 = cc in omega arith)
+-- a step to the token at p, or the refusal that there is none
+module _ (r : Reader) (p : ℕ) (e : Refusal) where
+  pub stepped : (o : Option Step) (s : Step) (t : TheToken) → step_of o ≡ token_at r.blob.bytes.now r.blob.layout p → IfSome o (λ x. (p + 4 ≤ x.next) × (x.next ≤ r.blob.layout.end)) → Ok s ≡ ok_or o e
+      → s.token ≡ t → Stepped r p t s.next
+  stepped None s t f b h k = absurd (cc)
+  stepped (Some x) s t f b h k =
+      let same : x ≡ s = cc in
+      record {
+        rises = subst (λ y. p + 4 ≤ y.next) same b.0;
+        stays = subst (λ y. y.next ≤ r.blob.layout.end) same b.1;
+        reads = λ gs. verdict-some r p gs (tok_of t) s.next (sym f ∙ ap (λ y. Some (tok_of y.token, y.next)) same ∙ ap (λ y. Some (tok_of y, s.next)) k);
+      }
+
+  pub unstepped : (o : Option Step) (f : Refusal) → step_of o ≡ token_at r.blob.bytes.now r.blob.layout p → Err f ≡ ok_or o e → (f ≡ e) × ((gs : List Open) → from r gs p ≡ Err (Token p))
+  unstepped None f g h = (cc, λ gs. verdict-none r p gs (sym g))
+  unstepped (Some x) f g h = absurd (cc)
 
 -- a node's token: its name is bad or used, it passes a limit, or it is entered
 module _ (r : Reader) (at n : ℕ) (g : Open) (gs : List Open) (name : Bytes) (token : token_at r.blob.bytes.now r.blob.layout at ≡ Some (begin name, n)) where
@@ -69,10 +71,10 @@ module _ (r : Reader) (at n : ℕ) (g : Open) (gs : List Open) (name : Bytes) (t
 -- what is counted within the limits, or its refusal
 pub counted : (fits : Bool) (c d : Counts) (e : Refusal) → Ok d ≡ ok_or (cond fits (Some c) None) e → (fits ≡ true) × (d ≡ c)
 counted true c d e h = (refl, cc)
-counted false c d e h = absurd (let z : ◌≡◌ {A = ℕ} 0 1 = cc in omega arith)
+counted false c d e h = absurd (cc)
 
 pub uncounted : (fits : Bool) (c : Counts) (e f : Refusal) → Err f ≡ ok_or (cond fits (Some c) None) e → (fits ≡ false) × (f ≡ e)
-uncounted true c e f h = absurd (let z : ◌≡◌ {A = ℕ} 0 1 = cc in omega arith)
+uncounted true c e f h = absurd (cc)
 uncounted false c e f h = (refl, cc)
 
 -- the names of the children alone

@@ -6,9 +6,10 @@ ghost use Rattle.arrayvec.specs.ArrayVec.{array_vec_len};
 ghost use Rattle.reader.specs.Seen.{begins};
 
 use arrayvec::ArrayVec;
+use tree::counts::{MAX_NODES, MAX_PROPERTIES};
 
 // All properties and nodes have room.
-pub const CAPACITY: usize = 1280;
+pub const CAPACITY: usize = MAX_NODES + MAX_PROPERTIES;
 
 #[derive(Drop)]
 pub struct Seen {
@@ -57,7 +58,7 @@ impl Seen {
 
     // One name more.
     pub(crate) fn push(&mut self, offset: usize)
-        requires { array_vec_len self.old.at < 1280 }
+        requires { array_vec_len self.old.at < CAPACITY }
         ensures { self.new.at.items ≡ self.old.at.items ++ (offset ∷ []) }
     {
         self.at.push(offset);

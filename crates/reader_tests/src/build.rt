@@ -26,8 +26,9 @@ pub struct Blocks {
     strings: Vec<u8>,
 }
 
-fn low_half(n: usize) -> u32 {
-    (n % 0x1_0000_0000) as u32
+// A size as a blob has it. None here passes 32 bits.
+fn size32(n: usize) -> u32 {
+    u32::try_from(n).unwrap_or(u32::MAX)
 }
 
 fn put32(out: &mut Vec<u8>, n: u32) -> Result<(), AllocError> {
@@ -57,7 +58,7 @@ impl Blocks {
     }
 
     fn property(&mut self, name: &[u8], value: &[u8]) -> Result<(), AllocError> {
-        let numbers = [3, low_half(value.len()), low_half(self.strings.len())];
+        let numbers = [3, size32(value.len()), size32(self.strings.len())];
         for n in numbers {
             put32(&mut self.structure, n)?;
         }
@@ -100,15 +101,15 @@ impl Blocks {
         let total = strings.wrapping_add(self.strings.len());
         let numbers = [
             0xd00d_feed,
-            low_half(total),
+            size32(total),
             56,
-            low_half(strings),
+            size32(strings),
             40,
             17,
             16,
             7,
-            low_half(self.strings.len()),
-            low_half(size),
+            size32(self.strings.len()),
+            size32(size),
             0,
             0,
             0,
@@ -136,11 +137,13 @@ pub fn set32(bytes: &mut Vec<u8>, at: usize, n: u32) {
     }
 }
 
-// The number and the place of the refusal; 0 and the number of nodes where there is none.
-pub fn verdict(bytes: &[u8]) -> (u32, usize) {
+// The number of nodes, or the number and the place of the refusal.
+pub type Verdict = Result<usize, (u32, usize)>;
+
+pub fn verdict(bytes: &[u8]) -> Verdict {
     match read(bytes) {
-        Ok(flat) => (0, flat.counts().nodes),
-        Err(refusal) => (refusal.number(), refusal.place()),
+        Ok(flat) => Ok(flat.counts().nodes),
+        Err(refusal) => Err((refusal.number(), refusal.place())),
     }
 }
 
@@ -150,7 +153,7 @@ pub fn blob_of(heap: Global, parts: &[Part]) -> Result<Vec<u8>, AllocError> {
     blocks.blob(heap)
 }
 
-pub fn verdict_of(heap: Global, parts: &[Part]) -> Result<(u32, usize), AllocError> {
+pub fn verdict_of(heap: Global, parts: &[Part]) -> Result<Verdict, AllocError> {
     let bytes = blob_of(heap, parts)?;
     Ok(verdict(bytes.as_slice()))
 }

@@ -22,14 +22,14 @@ fn skipped_tokens(rt: HostRuntime) -> Result<(), Fail> {
         Skip,
         Finish,
     ];
-    assert_eq!(rt; verdict_of(rt.alloc(), &parts)?, (0, 2));
+    assert_eq!(rt; verdict_of(rt.alloc(), &parts)?, Ok(2));
     Ok(())
 }
 
 // These parts make a blob that is so refused.
 fn refused(heap: Global, parts: &[Part], number: u32, place: usize) -> Result<(), Fail> {
     let found = verdict_of(heap, parts)?;
-    if found != (number, place) {
+    if found != Err((number, place)) {
         return Err(Fail::new(format_args!("{found:?} for ({number}, {place})")));
     }
     Ok(())
@@ -63,7 +63,7 @@ fn unknown_tokens(rt: HostRuntime) -> Result<(), Fail> {
     for token in [0, 5, 8, 10, 0x0100_0000, 0xffff_ffff] {
         assert_eq!(rt;
             verdict_of(rt.alloc(), &[ROOT, Number(token), End, Finish])?,
-            (13, 64)
+            Err((13, 64))
         );
     }
     Ok(())
@@ -96,7 +96,7 @@ fn strings_block(rt: HostRuntime) -> Result<(), Fail> {
         End,
         Finish,
     ];
-    assert_eq!(rt; verdict_of(heap, &shared)?, (0, 1), "a name inside another");
+    assert_eq!(rt; verdict_of(heap, &shared)?, Ok(1), "a name inside another");
     for offset in [5, 6, 7, 8, 0xffff_ffff] {
         let parts = [Text(b"name\0ab"), ROOT, PropertyAt(offset), End, Finish];
         refused(heap, &parts, 13, 64)?;
@@ -118,7 +118,7 @@ fn bad_names(rt: HostRuntime) -> Result<(), Fail> {
         refused(rt.alloc(), &[ROOT, Begin(name)], 14, 64)?;
         assert_eq!(rt;
             verdict_of(rt.alloc(), &[ROOT, Property(name, b"")])?,
-            (14, 64)
+            Err((14, 64))
         );
     }
     Ok(())
@@ -129,7 +129,7 @@ fn names_used_twice(rt: HostRuntime) -> Result<(), Fail> {
     let heap = rt.alloc();
     let a = Property(b"a", b"");
     let good = [ROOT, a, Begin(b"a"), a, End, End, Finish];
-    assert_eq!(rt; verdict_of(heap, &good)?, (0, 2));
+    assert_eq!(rt; verdict_of(heap, &good)?, Ok(2));
     let nodes = [ROOT, Begin(b"a"), End, Begin(b"b"), End, Begin(b"a")];
     refused(heap, &nodes, 14, 88)?;
     refused(heap, &[ROOT, a, a], 14, 76)

@@ -1,5 +1,5 @@
 // Both sides of every limit.
-use crate::build::{Blocks, Part, sample, set32, verdict, verdict_of};
+use crate::build::{Blocks, Part, Verdict, sample, set32, verdict, verdict_of};
 use Part::{Begin, End, Finish, Property};
 use std::alloc::{AllocError, Global};
 use std::test::Fail;
@@ -13,7 +13,7 @@ fn name_of(i: usize) -> [u8; 3] {
 }
 
 // A root with so many children.
-fn children(heap: Global, n: usize) -> Result<(u32, usize), AllocError> {
+fn children(heap: Global, n: usize) -> Result<Verdict, AllocError> {
     let mut blocks = Blocks::new(heap);
     blocks.all(&[Begin(b"")])?;
     for i in 0..n {
@@ -25,13 +25,13 @@ fn children(heap: Global, n: usize) -> Result<(u32, usize), AllocError> {
 
 #[test]
 fn nodes(rt: HostRuntime) -> Result<(), Fail> {
-    assert_eq!(rt; children(rt.alloc(), 255)?, (0, 256));
-    assert_eq!(rt; children(rt.alloc(), 256)?, (15, 3124));
+    assert_eq!(rt; children(rt.alloc(), 255)?, Ok(256));
+    assert_eq!(rt; children(rt.alloc(), 256)?, Err((15, 3124)));
     Ok(())
 }
 
 // A root with so many properties.
-fn properties_of(heap: Global, n: usize) -> Result<(u32, usize), AllocError> {
+fn properties_of(heap: Global, n: usize) -> Result<Verdict, AllocError> {
     let mut blocks = Blocks::new(heap);
     blocks.all(&[Begin(b"")])?;
     for i in 0..n {
@@ -43,22 +43,22 @@ fn properties_of(heap: Global, n: usize) -> Result<(u32, usize), AllocError> {
 
 #[test]
 fn properties(rt: HostRuntime) -> Result<(), Fail> {
-    assert_eq!(rt; properties_of(rt.alloc(), 1024)?, (0, 1));
-    assert_eq!(rt; properties_of(rt.alloc(), 1025)?, (15, 12352));
+    assert_eq!(rt; properties_of(rt.alloc(), 1024)?, Ok(1));
+    assert_eq!(rt; properties_of(rt.alloc(), 1025)?, Err((15, 12352)));
     Ok(())
 }
 
 #[test]
 fn values(rt: HostRuntime) -> Result<(), Fail> {
     let most = [Begin(b""), Property(b"p", &[0; 4096]), End, Finish];
-    assert_eq!(rt; verdict_of(rt.alloc(), &most)?, (0, 1));
+    assert_eq!(rt; verdict_of(rt.alloc(), &most)?, Ok(1));
     let over = [Begin(b""), Property(b"p", &[0; 4097]), End, Finish];
-    assert_eq!(rt; verdict_of(rt.alloc(), &over)?, (15, 64));
+    assert_eq!(rt; verdict_of(rt.alloc(), &over)?, Err((15, 64)));
     Ok(())
 }
 
 // Nodes in one another: 126 with a name of one byte, and then this one.
-fn nested(heap: Global, last: &[u8]) -> Result<(u32, usize), AllocError> {
+fn nested(heap: Global, last: &[u8]) -> Result<Verdict, AllocError> {
     let mut blocks = Blocks::new(heap);
     blocks.all(&[Begin(b"")])?;
     blocks.all(&[Begin(b"a"); 126])?;
@@ -70,13 +70,13 @@ fn nested(heap: Global, last: &[u8]) -> Result<(u32, usize), AllocError> {
 
 #[test]
 fn paths(rt: HostRuntime) -> Result<(), Fail> {
-    assert_eq!(rt; nested(rt.alloc(), b"ab")?, (0, 128));
-    assert_eq!(rt; nested(rt.alloc(), b"abc")?, (15, 1072));
+    assert_eq!(rt; nested(rt.alloc(), b"ab")?, Ok(128));
+    assert_eq!(rt; nested(rt.alloc(), b"abc")?, Err((15, 1072)));
     Ok(())
 }
 
 // A weight of 20,504, and then a property of 4,069 and its name's length.
-fn weighing(heap: Global, name: &[u8]) -> Result<(u32, usize), AllocError> {
+fn weighing(heap: Global, name: &[u8]) -> Result<Verdict, AllocError> {
     let mut blocks = Blocks::new(heap);
     blocks.all(&[Begin(b"")])?;
     for i in 0..5 {
@@ -88,13 +88,13 @@ fn weighing(heap: Global, name: &[u8]) -> Result<(u32, usize), AllocError> {
 
 #[test]
 fn weights(rt: HostRuntime) -> Result<(), Fail> {
-    assert_eq!(rt; weighing(rt.alloc(), b"xyz")?, (0, 1));
-    assert_eq!(rt; weighing(rt.alloc(), b"wxyz")?, (15, 20604));
+    assert_eq!(rt; weighing(rt.alloc(), b"xyz")?, Ok(1));
+    assert_eq!(rt; weighing(rt.alloc(), b"wxyz")?, Err((15, 20604)));
     Ok(())
 }
 
 // The sample with so many bytes in all, zero bytes behind its blocks.
-fn stretched(heap: Global, total: u32) -> Result<(u32, usize), AllocError> {
+fn stretched(heap: Global, total: u32) -> Result<Verdict, AllocError> {
     let mut bytes = sample(heap)?;
     set32(&mut bytes, 4, total);
     bytes.extend_from_slice(&[0; 40961])?;
@@ -103,7 +103,7 @@ fn stretched(heap: Global, total: u32) -> Result<(u32, usize), AllocError> {
 
 #[test]
 fn total_sizes(rt: HostRuntime) -> Result<(), Fail> {
-    assert_eq!(rt; stretched(rt.alloc(), 40960)?, (0, 2));
-    assert_eq!(rt; stretched(rt.alloc(), 40961)?, (15, 0));
+    assert_eq!(rt; stretched(rt.alloc(), 40960)?, Ok(2));
+    assert_eq!(rt; stretched(rt.alloc(), 40961)?, Err((15, 0)));
     Ok(())
 }

@@ -1,4 +1,4 @@
-use Rattle.std.proofs.Common.{◌≡◌, ◌+◌, ◌≤◌, true, false, [], ◌∷◌, ◌++◌, length, drop, sym, refl, ap, ◌∙◌, subst, arith}
+use Rattle.std.proofs.Common.{◌≡◌, ◌+◌, ◌≤◌, true, false, [], ◌∷◌, ◌++◌, length, drop, sym, ap, ◌∙◌, subst, arith}
 use Rattle.std.specs.Option.{ok_or}
 use Rattle.std.proofs.lemmas.Result.{err_from_is_err_and}
 use Rattle.std.proofs.lemmas.List.{take_all}
@@ -11,7 +11,7 @@ use Rattle.reader.specs.Seen.{Spells}
 use Rattle.reader.specs.Verdict.{opened, kids, verdict}
 use Rattle.reader.proofs.Begun.{among-has}
 use Rattle.reader.proofs.Noting.{push-named, node-stands}
-use Rattle.reader.proofs.Passing.{verdict-none, verdict-some, step-there, step_none, node_bad, node-used, node_over, node-entered, counted, uncounted, kin-named, named_then, passed-node}
+use Rattle.reader.proofs.Passing.{stepped, unstepped, node_bad, node-used, node_over, node-entered, counted, uncounted, kin-named, named_then, passed-node}
 use Rattle.reader.proofs.reader.Reader.+read_body_read_node.Goals as goal
 use Rattle.reader.proofs.reader.Reader.+read_body_read_node.Goals.{read_node-then-not-is_node_name-via-then-not-is_node_name, read_node-then-not-is_node_name-via-else-not-is_node_name+then-has}
 
@@ -19,15 +19,15 @@ pub read_body-returns-in_err-step : goal.read_body-returns-in_err-step
 read_body-returns-in_err-step t c =
     let r = c.loop-step.self in
     let e = err_from_is_err_and c.from_residual.result c.from_residual.ensures.1 in
-    let n = step_none r.blob.bytes.now r.blob.layout c.loop-step.p _ _ c.token_at.ensures.value _ (sym c.in_err-step.was ∙ c.ok_or.ensures.value) in
-    rw (e.1, e.2, n.1) (λ gs. c.loop-step.invariant.4.2 gs ∙ verdict-none r c.loop-step.p _ n.0)
+    let n = unstepped r c.loop-step.p _ _ _ c.token_at.ensures.value (sym c.in_err-step.was ∙ c.ok_or.ensures.value) in
+    rw (e.1, e.2, n.0) (λ gs. c.loop-step.invariant.4.2 gs ∙ n.1 _)
 
 pub read_body-returns-then-children : goal.read_body-returns-then-children
 read_body-returns-then-children t c = λ gs.
     let r = c.loop-step.self in
     let i = c.loop-step.invariant.4.2 gs in
-    let a = step-there r.blob.bytes.now r.blob.layout c.loop-step.p _ _ c.token_at.ensures.value _ _ c.token_at.ensures.bounds (sym c.in_ok-step.was ∙ c.ok_or.ensures.value) c.in-Property.is in
-    let s = verdict-some r c.loop-step.p (opened c.args.path c.loop-step.children c.loop-step.invariant.4.0 ∷ gs) _ _ a.0 in
+    let a = stepped r c.loop-step.p _ _ _ _ c.token_at.ensures.value c.token_at.ensures.bounds (sym c.in_ok-step.was ∙ c.ok_or.ensures.value) c.in-Property.is in
+    let s = a.reads (opened c.args.path c.loop-step.children c.loop-step.invariant.4.0 ∷ gs) in
     grind (arith, nat_tests)
 
 pub read_body-returns-in_err-read_property-in-Property : goal.read_body-returns-in_err-read_property-in-Property
@@ -36,10 +36,10 @@ read_body-returns-in_err-read_property-in-Property t c =
     let e = err_from_is_err_and c.from_residual-in_err-read_property-in-Property.result c.from_residual-in_err-read_property-in-Property.ensures.1 in
     let v = c.loop-step.invariant in
     let f = c.in_err-read_property-in-Property.ensures v.4.0 (subst (λ b. Spells b.bytes.now (drop c.len-base.result r.seen.at.items) v.4.0) (sym v.2) v.4.1.spells) in
-    let a = step-there r.blob.bytes.now r.blob.layout c.loop-step.p _ _ c.token_at.ensures.value _ _ c.token_at.ensures.bounds (sym c.in_ok-step.was ∙ c.ok_or.ensures.value) c.in-Property.is in
+    let a = stepped r c.loop-step.p _ _ _ _ c.token_at.ensures.value c.token_at.ensures.bounds (sym c.in_ok-step.was ∙ c.ok_or.ensures.value) c.in-Property.is in
     rw (e.1, e.2) (λ gs.
     let i = c.loop-step.invariant.4.2 gs in
-    let s = verdict-some r c.loop-step.p (opened c.args.path c.loop-step.children c.loop-step.invariant.4.0 ∷ gs) _ _ a.0 in
+    let s = a.reads (opened c.args.path c.loop-step.children c.loop-step.invariant.4.0 ∷ gs) in
     grind (arith, nat_tests))
 
 pub read_body-loop-step-preserved-in-Property : goal.read_body-loop-step-preserved-in-Property
@@ -49,10 +49,10 @@ read_body-loop-step-preserved-in-Property t c =
     let new = c.read_property.new.self in
     let name = c.in-Property.name.now in
     let value = c.in-Property.value.now in
-    let a = step-there r.blob.bytes.now r.blob.layout c.loop-step.p _ _ c.token_at.ensures.value _ _ c.token_at.ensures.bounds (sym c.in_ok-step.was ∙ c.ok_or.ensures.value) c.in-Property.is in
+    let a = stepped r c.loop-step.p _ _ _ _ c.token_at.ensures.value c.token_at.ensures.bounds (sym c.in_ok-step.was ∙ c.ok_or.ensures.value) c.in-Property.is in
     let f = c.in_ok-read_property-in-Property.ensures v.4.0 (subst (λ b. Spells b.bytes.now (drop c.len-base.result r.seen.at.items) v.4.0) (sym v.2) v.4.1.spells) in (
       omega arith,
-      subst (λ b. c.in_ok-step.step.next ≤ b.layout.end) v.2 a.2,
+      subst (λ b. c.in_ok-step.step.next ≤ b.layout.end) v.2 a.stays,
       f.2 ∙ v.2,
       v.3,
       (
@@ -60,7 +60,7 @@ read_body-loop-step-preserved-in-Property t c =
         named_then c.args.self.now.blob.bytes.now c.len-base.result c.args.self.now.seen.at.items r.seen.at.items new.seen.at.items _ _ v.4.1
             (subst (λ b. Named b.bytes.now c.len-base.result r.seen.at.items new.seen.at.items (v.4.0 ++ (name ∷ []))) v.2 f.3),
         λ gs.
-            let s = verdict-some r c.loop-step.p (opened c.args.path c.loop-step.children v.4.0 ∷ gs) _ _ a.0 in
+            let s = a.reads (opened c.args.path c.loop-step.children v.4.0 ∷ gs) in
             let fault = f.0 in
             let w : from r (opened c.args.path c.loop-step.children v.4.0 ∷ gs) c.loop-step.p
             ≡ verdict (opened c.args.path false (v.4.0 ++ (name ∷ [])) ∷ gs) (with_property r.counts (length name) (length value)) (tokens_from r.blob.bytes.now r.blob.layout c.in_ok-step.step.next) =
@@ -74,32 +74,32 @@ pub read_body-returns-in-End : goal.read_body-returns-in-End
 read_body-returns-in-End t c =
     let r = c.loop-step.self in
     let v = c.loop-step.invariant in
-    let a = step-there r.blob.bytes.now r.blob.layout c.loop-step.p _ _ c.token_at.ensures.value _ _ c.token_at.ensures.bounds (sym c.in_ok-step.was ∙ c.ok_or.ensures.value) c.in-End.is in (
+    let a = stepped r c.loop-step.p _ _ _ _ c.token_at.ensures.value c.token_at.ensures.bounds (sym c.in_ok-step.was ∙ c.ok_or.ensures.value) c.in-End.is in (
       omega arith,
-      subst (λ b. c.in_ok-step.step.next ≤ b.layout.end) v.2 a.2,
+      subst (λ b. c.in_ok-step.step.next ≤ b.layout.end) v.2 a.stays,
       v.2,
       c.truncate.ensures.items ∙ v.4.1.below ∙ take_all c.len-base.result c.args.self.now.seen.at.items (omega arith),
-      λ gs. v.4.2 gs ∙ verdict-some r c.loop-step.p (opened c.args.path c.loop-step.children v.4.0 ∷ gs) _ _ a.0,
+      λ gs. v.4.2 gs ∙ a.reads (opened c.args.path c.loop-step.children v.4.0 ∷ gs),
     )
 
 pub read_body-loop-step-preserved : goal.read_body-loop-step-preserved
 read_body-loop-step-preserved t c =
     let r = c.loop-step.self in
     let v = c.loop-step.invariant in
-    let a = step-there r.blob.bytes.now r.blob.layout c.loop-step.p _ _ c.token_at.ensures.value _ _ c.token_at.ensures.bounds (sym c.in_ok-step.was ∙ c.ok_or.ensures.value) c.in-Nop.is in (
+    let a = stepped r c.loop-step.p _ _ _ _ c.token_at.ensures.value c.token_at.ensures.bounds (sym c.in_ok-step.was ∙ c.ok_or.ensures.value) c.in-Nop.is in (
       omega arith,
-      subst (λ b. c.in_ok-step.step.next ≤ b.layout.end) v.2 a.2,
+      subst (λ b. c.in_ok-step.step.next ≤ b.layout.end) v.2 a.stays,
       v.2,
       v.3,
-      (v.4.0, v.4.1, λ gs. v.4.2 gs ∙ verdict-some r c.loop-step.p (opened c.args.path c.loop-step.children v.4.0 ∷ gs) _ _ a.0),
+      (v.4.0, v.4.1, λ gs. v.4.2 gs ∙ a.reads (opened c.args.path c.loop-step.children v.4.0 ∷ gs)),
     )
 
 pub read_body-returns-in-Finish : goal.read_body-returns-in-Finish
 read_body-returns-in-Finish t c = λ gs.
     let r = c.loop-step.self in
     let v = c.loop-step.invariant in
-    let a = step-there r.blob.bytes.now r.blob.layout c.loop-step.p _ _ c.token_at.ensures.value _ _ c.token_at.ensures.bounds (sym c.in_ok-step.was ∙ c.ok_or.ensures.value) c.in-Finish.is in
-    v.4.2 gs ∙ verdict-some r c.loop-step.p (opened c.args.path c.loop-step.children v.4.0 ∷ gs) _ _ a.0
+    let a = stepped r c.loop-step.p _ _ _ _ c.token_at.ensures.value c.token_at.ensures.bounds (sym c.in_ok-step.was ∙ c.ok_or.ensures.value) c.in-Finish.is in
+    v.4.2 gs ∙ a.reads (opened c.args.path c.loop-step.children v.4.0 ∷ gs)
 
 pub read_node-returns-then-not-is_node_name : goal.read_node-returns-then-not-is_node_name
 read_node-returns-then-not-is_node_name t c = λ ns s gs.

@@ -2,11 +2,9 @@ use Rattle.std.proofs.Common.{sym, ap, ◌∙◌, refl, drop, arith}
 use Rattle.std.specs.Option.{ok_or}
 use Rattle.std.proofs.lemmas.Result.{err_from_is_err_and}
 use Rattle.std.proofs.lemmas.Bool.Decides.{nat_tests}
-use Rattle.blob.specs.Tokens.{property}
 use Rattle.blob.specs.declared.types.Refusal.TheVariants.{Limit}
-use Rattle.blob.proofs.Shapes.{token-sound}
 use Rattle.reader.proofs.Begun.{among-has}
-use Rattle.reader.proofs.Noting.{push-named, property-stands}
+use Rattle.reader.proofs.Noting.{push-named, property-stands, property_within}
 use Rattle.reader.proofs.Passing.{counted, uncounted}
 use Rattle.reader.proofs.reader.Reader.read_property.Goals as goal
 
@@ -27,20 +25,10 @@ returns-in_err-self c = λ ns s.
     rw (e.1, e.2) (grind (arith, nat_tests))
 
 pub overflow_add-at : goal.overflow_add-at
-overflow_add-at c =
-    let h = token-sound _ _ _ (property c.args.name.now c.args.value.now) _ c.requires.token.1 in
-    let n = h.next in
-    let k = h.held in
-    let w = c.args.self.now.blob.structure_within in
-    omega arith
+overflow_add-at c = let w = property_within c.args.self.now.blob c.args.at c.args.name.now c.args.value.now _ c.requires.token.1 in omega arith
 
 pub be32_at-requires : goal.be32_at-requires
-be32_at-requires c =
-    let h = token-sound _ _ _ (property c.args.name.now c.args.value.now) _ c.requires.token.1 in
-    let n = h.next in
-    let k = h.held in
-    let w = c.args.self.now.blob.structure_within in
-    omega arith
+be32_at-requires c = let w = property_within c.args.self.now.blob c.args.at c.args.name.now c.args.value.now _ c.requires.token.1 in omega arith
 
 pub returns : goal.returns
 returns c = λ ns s.
