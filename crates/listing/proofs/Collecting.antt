@@ -110,20 +110,9 @@ pub child_built :
     v₂ ≡ child parent name
 child_built parent name v₀ v₁ v₂ p q r = r ∙ ap (λ (l : Bytes). l ++ name) q ∙ append_assoc v₀ (47 ∷ []) name ∙ ap (λ (l : Bytes). l ++ (47 ∷ name)) p
 
-pub stem-kept :
-    (v₀ v₁ parent top : Bytes) →
-    v₀ ≡ [] →
-    v₁ ≡ v₀ ++ parent →
-    parent ≡ top →
-    false ≡ bytes_eq parent root →
-    v₁ ≡ stem top
+pub stem_made : (b : Bool) (parent v : Bytes) → b ≡ bytes_eq parent root → v ≡ cond b [] parent → v ≡ stem parent
 unfolding stem
-stem-kept v₀ v₁ parent top p q e f =
-    q ∙ ap (λ (l : Bytes). l ++ parent) p ∙ ap (λ (b : Bool). cond b [] parent) f ∙ ap stem e
-
-pub stem-none : (v₀ parent top : Bytes) → v₀ ≡ [] → parent ≡ top → true ≡ bytes_eq parent root → v₀ ≡ stem top
-unfolding stem
-stem-none v₀ parent top p e f = p ∙ ap (λ (b : Bool). cond b [] parent) f ∙ ap stem e
+stem_made b parent v e p = p ∙ ap (λ (c : Bool). cond c [] parent) e
 
 -- a row with this path behind the others
 pub row_more :
