@@ -1,5 +1,5 @@
 -- Steps of the loop that makes a row of each node and property.
-use Rattle.std.proofs.Common.{◌≡◌, ℕ, ◌<◌, Bool, true, false, cond, ltb, List, [], ◌∷◌, ◌++◌, map, reverse, length, is_some, IfOk, Some, None, Ok, Err, vec_items, Option, Result, Vec, sym, refl, ap, ◌∙◌, append_assoc, append-nil, arith, Bor}
+use Rattle.std.proofs.Common.{◌≡◌, ℕ, ◌<◌, Bool, cond, ltb, List, [], ◌∷◌, ◌++◌, map, reverse, length, is_some, IfOk, Some, None, Ok, Err, vec_items, Option, Result, Vec, sym, refl, ap, ◌∙◌, append_assoc, append-nil, arith, Bor}
 use Rattle.std.specs.declared.alloc.Global.{Global}
 use Rattle.std.specs.Option.{option_to_list}
 use Rattle.std.specs.List.{AllZip}
@@ -11,7 +11,7 @@ use Rattle.names.specs.Paths.{root, child, stem}
 use Rattle.tree.specs.Places.{Bytes, Place}
 use Rattle.tree.specs.Trees.{Places}
 use Rattle.tree.specs.Entries.{listed}
-use Rattle.blob.specs.Tokens.{Tok, begin, property, end}
+use Rattle.blob.specs.Tokens.{begin, property, end}
 use Rattle.reader.specs.declared.tokens.Item.{Item}
 use Rattle.reader.specs.declared.tokens.Item.TheVariants.{Begin, Property, End}
 use Rattle.reader.specs.Format.{Spelt}
@@ -85,17 +85,6 @@ property-more ps qs st at name value p rest =
 pub end_more : (ps : Places) (st ss : List Bytes) (at : ℕ) → outer st ≡ ss → (rest : Spelt) → told ps ss rest ≡ told ps st ((at, end) ∷ rest)
 unfolding entries
 end_more ps st ss at q rest = ap (λ (x : List Bytes). told ps x rest) (sym q)
-
-pub told_more :
-    (ps qs all : Places)
-    (st ss : List Bytes)
-    (was is : Spelt)
-    (t : ℕ × Tok) →
-    told ps st was ≡ all →
-    was ≡ t ∷ is →
-    ((rest : Spelt) → told qs ss rest ≡ told ps st (t ∷ rest)) →
-    told qs ss is ≡ all
-told_more ps qs all st ss was is t inv p f = f is ∙ ap (λ (ts : Spelt). told ps st ts) (sym p) ∙ inv
 
 pub none_left : (ps all : Places) (st : List Bytes) (was : Spelt) → told ps st was ≡ all → was ≡ [] → ps ≡ all
 unfolding entries
