@@ -1,10 +1,14 @@
 -- What is still to be handed out, one token on. Assumes nothing.
-use Rattle.std.proofs.Common.{◌≡◌, ℕ, true, List, [], ◌∷◌, Some, None, refl, ap}
+use Rattle.std.proofs.Common.{◌≡◌, ℕ, true, ◌⊎◌, List, [], ◌∷◌, Some, None, Option, sym, refl, ap, ◌∙◌, ⊎_elim, arith}
 use Rattle.tree.specs.Places.{Bytes}
 use Rattle.blob.specs.Lexing.{tokens_from}
-use Rattle.blob.specs.Tokens.{Tok, begin, property, end, nop, finish, token_at}
+use Rattle.blob.specs.Tokens.{Tok, begin, property, end, nop, finish, tok_of, token_at}
 use Rattle.blob.specs.declared.types.Layout.{Layout}
+use Rattle.blob.specs.declared.types.Token.{Token}
+use Rattle.blob.specs.declared.types.Token.TheVariants.{Nop, Finish}
 use Rattle.blob.proofs.Lexed.{tokens_none, tokens-some}
+use Rattle.blob.proofs.Shapes.{token-sound}
+use Rattle.blob.proofs.Steps.{token-next}
 use Rattle.std.proofs.lemmas.Bool.{and_parts, and_from}
 use Rattle.names.specs.Names.{each, node_name}
 use Rattle.tree.specs.Entries.{Entry}
@@ -31,6 +35,20 @@ module _ (bs : Bytes) (l : Layout) (p : ℕ) where
   ahead-some end n e = rw (tokens-some bs l p end n e)
   ahead-some nop n e = rw (tokens-some bs l p nop n e)
   ahead-some finish n e = rw (tokens-some bs l p finish n e)
+
+module _ (bs : Bytes) (l : Layout) (p n : ℕ) where
+  -- nothing is found behind the end token
+  ahead-last : token_at bs l p ≡ Some (finish, n) → ahead bs l n ≡ []
+  ahead-last e = ahead_none bs l n (gone (token_at bs l n) refl)
+    where
+      gone : (o : Option (Tok × ℕ)) → token_at bs l n ≡ o → token_at bs l n ≡ None
+      gone None f = f
+      gone (Some s) f = let last = (token-sound bs l p finish n e).1 in let a = token-next bs l n s.0 s.1 f in absurd (omega arith)
+
+  pub ahead-skipped : (t : Token) → (t ≡ Nop) ⊎ (t ≡ Finish) → token_at bs l p ≡ Some (tok_of t, n) → ahead bs l p ≡ ahead bs l n
+  ahead-skipped t k e =
+      ⊎_elim (λ i. ahead-some bs l p (tok_of t) n e ∙ ap (λ u. hand_on p (tok_of u) (ahead bs l n)) i)
+      (λ i. let f = e ∙ ap (λ u. Some (tok_of u, n)) i in ahead-some bs l p finish n f ∙ sym (ahead-last f)) k
 
 -- the entries of what is handed out are those of all tokens
 pub entries-until : (ts : Spelt) (ps : List Bytes) → entries ps (until ts) ≡ entries ps ts

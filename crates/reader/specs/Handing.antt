@@ -5,7 +5,6 @@ use Rattle.tree.specs.Places.{Bytes}
 use Rattle.blob.specs.Tokens.{Tok, begin, property, end, nop, finish}
 use Rattle.blob.specs.Lexing.{tokens_from}
 use Rattle.blob.specs.declared.types.Layout.{Layout}
-use Rattle.reader.specs.declared.tokens.Found.{Found}
 use Rattle.reader.specs.declared.tokens.Item.{Item}
 use Rattle.reader.specs.declared.tokens.Item.TheVariants.{Begin, Property, End}
 use Rattle.reader.specs.Format.{Spelt}
@@ -32,11 +31,6 @@ until (x ∷ ts) = until_on x.0 x.1 (until ts)
 -- what is still to be handed out from the offset p on: the tokens without the skipped ones
 abbrev pub ahead : Bytes → Layout → ℕ → Spelt
 ahead bs l p = until (sound (tokens_from bs l p))
-
--- the first item from p on, and what is ahead behind it
-abbrev pub Sought : Bytes → Layout → ℕ → Option Found → Type 0
-Sought bs l p None = ahead bs l p ≡ []
-Sought bs l p (Some f) = ahead bs l p ≡ item_of f.item ∷ ahead bs l f.next
 
 -- one item is handed out, or nothing was left
 abbrev pub Handed : Option Item → Spelt → Spelt → Type 0

@@ -1,9 +1,9 @@
 // A cursor over the tokens of a blob.
-ghost use Rattle.std.specs.Prelude.{◌≡◌, ◌+◌, ◌-◌, ◌≤◌, IfSome, OnSome};
-ghost use Rattle.reader.specs.Handing.{ahead, Handed, Sought};
+ghost use Rattle.std.specs.Prelude.{◌≡◌, ◌+◌, ◌-◌, ◌≤◌, OnSome};
+ghost use Rattle.reader.specs.Handing.{ahead, Handed};
 ghost use Rattle.std.specs.Iterator.{at_most};
 
-use crate::tokens::{Found, Item};
+use crate::tokens::Item;
 use blob::blob::Blob;
 use blob::types::Token;
 
@@ -14,56 +14,32 @@ pub struct Tokens<'a> {
     ghost within: { next ≤ blob.layout.end },
 }
 
-// The first item from an offset on, past skipped tokens.
-fn item_from<'a>(blob: &Blob<'a>, start: usize) -> Option<Found<'a>>
-    requires { start ≤ blob.now.layout.end }
-    ensures item { Sought blob.now.bytes.now blob.now.layout start result }
-    ensures bounds { IfSome result (λ f. (start + 4 ≤ f.next) × (f.next ≤ blob.now.layout.end)) }
-{
-    let mut at = start;
-    loop {
-        let Some(step) = blob.token_at(at) else {
-            return None;
-        };
-        let next = step.next;
-        match step.token {
-            Token::Begin { name } => {
-                let item = Item::Begin { at, name };
-                return Some(Found { item, next });
-            }
-            Token::Property { name, value } => {
-                let item = Item::Property { at, name, value };
-                return Some(Found { item, next });
-            }
-            Token::End => {
-                let item = Item::End { at };
-                return Some(Found { item, next });
-            }
-            Token::Nop => {
-                at = next;
-            }
-            Token::Finish => return None,
-        }
-    }
-}
-
 impl<'a> Tokens<'a> {
-    // The next item, or nothing where the end of the block, or a fault, has been reached.
+    // The next item, or nothing where the end of the block, or a fault, has been reached. `next` promises no less.
     pub fn advance(&mut self) -> Option<Item<'a>>
         ensures hands { Handed result (ahead self.old.blob.bytes.now self.old.blob.layout self.old.next) (ahead self.new.blob.bytes.now self.new.blob.layout self.new.next) }
         ensures blob { self.new.blob ≡ self.old.blob }
         ensures rises { OnSome result (self.old.next + 4 ≤ self.new.next) }
     {
-        let found = item_from(&self.blob, self.next)?;
-        self.next = found.next;
-        Some(found.item)
+        while let Some(step) = self.blob.token_at(self.next) {
+            let at = self.next;
+            self.next = step.next;
+            match step.token {
+                Token::Begin { name } => return Some(Item::Begin { at, name }),
+                Token::Property { name, value } => return Some(Item::Property { at, name, value }),
+                Token::End => return Some(Item::End { at }),
+                // Nothing is found behind an end token.
+                Token::Nop | Token::Finish => {}
+            }
+        }
+        None
     }
 }
 
 impl<'a> Iterator for Tokens<'a> {
     type Item = Item<'a>;
 
-    ghost next_gives = { λ s r t. (t.blob ≡ s.blob) × Handed r (ahead s.blob.bytes.now s.blob.layout s.next) (ahead t.blob.bytes.now t.blob.layout t.next) };
+    ghost next_gives = { λ s r t. (t.blob ≡ s.blob) × Handed r (ahead s.blob.bytes.now s.blob.layout s.next) (ahead t.blob.bytes.now t.blob.layout t.next) × OnSome r (s.next + 4 ≤ t.next) };
 
     ghost remaining = { λ s. at_most (s.blob.layout.end - s.next) };
 

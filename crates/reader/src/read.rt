@@ -21,6 +21,7 @@ use names::names::{is_node_name, is_property_name};
 use tree::counts::Counts;
 
 // An open node: where its names begin in the table, the length of its path (0 for the root), whether a child has come.
+// The flag is no enum, since each use of one would turn it back into the clauses' Bool.
 #[derive(Clone, Copy)]
 struct Frame {
     base: usize,

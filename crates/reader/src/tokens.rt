@@ -16,10 +16,3 @@ pub enum Item<'a> {
         at: usize,
     },
 }
-
-// An item, and where the next token starts.
-#[derive(Clone, Copy)]
-pub(crate) struct Found<'a> {
-    pub(crate) item: Item<'a>,
-    pub(crate) next: usize,
-}

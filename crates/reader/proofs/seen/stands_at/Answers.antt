@@ -1,4 +1,4 @@
-use Rattle.std.proofs.Common.{◌≡◌, drop, length, ◌&&◌, eqb, [], ◌∷◌, sym, ap, ◌∙◌}
+use Rattle.std.proofs.Common.{drop, length, ◌&&◌, eqb, [], ◌∷◌, sym, ap, ◌∙◌}
 use Rattle.std.specs.List.{starts_with}
 use Rattle.std.proofs.lemmas.List.{take_rest}
 use Rattle.reader.specs.Seen.{begins}
