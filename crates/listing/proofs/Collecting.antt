@@ -1,5 +1,5 @@
 -- Steps of the loop that makes a row of each node and property.
-use Rattle.std.proofs.Common.{◌≡◌, ℕ, ◌<◌, Bool, true, false, cond, ltb, List, [], ◌∷◌, ◌++◌, map, reverse, length, is_some, IfOk, Some, None, Ok, Err, vec_items, Option, Result, Vec, sym, refl, ap, ◌∙◌, append_assoc, append-nil, arith, Bor}
+use Rattle.std.proofs.Common.{◌≡◌, ℕ, ◌<◌, Bool, cond, ltb, List, [], ◌∷◌, ◌++◌, map, reverse, length, is_some, IfOk, Some, None, Ok, Err, vec_items, Option, Result, Vec, sym, refl, ap, ◌∙◌, append_assoc, append-nil, arith, Bor}
 use Rattle.std.specs.declared.alloc.Global.{Global}
 use Rattle.std.specs.Option.{option_to_list}
 use Rattle.std.specs.List.{AllZip}
@@ -11,7 +11,7 @@ use Rattle.names.specs.Paths.{root, child, stem}
 use Rattle.tree.specs.Places.{Bytes, Place}
 use Rattle.tree.specs.Trees.{Places}
 use Rattle.tree.specs.Entries.{listed}
-use Rattle.blob.specs.Tokens.{Tok, begin, property, end}
+use Rattle.blob.specs.Tokens.{begin, property, end}
 use Rattle.reader.specs.declared.tokens.Item.{Item}
 use Rattle.reader.specs.declared.tokens.Item.TheVariants.{Begin, Property, End}
 use Rattle.reader.specs.Format.{Spelt}
@@ -86,17 +86,6 @@ pub end_more : (ps : Places) (st ss : List Bytes) (at : ℕ) → outer st ≡ ss
 unfolding entries
 end_more ps st ss at q rest = ap (λ (x : List Bytes). told ps x rest) (sym q)
 
-pub told_more :
-    (ps qs all : Places)
-    (st ss : List Bytes)
-    (was is : Spelt)
-    (t : ℕ × Tok) →
-    told ps st was ≡ all →
-    was ≡ t ∷ is →
-    ((rest : Spelt) → told qs ss rest ≡ told ps st (t ∷ rest)) →
-    told qs ss is ≡ all
-told_more ps qs all st ss was is t inv p f = f is ∙ ap (λ (ts : Spelt). told ps st ts) (sym p) ∙ inv
-
 pub none_left : (ps all : Places) (st : List Bytes) (was : Spelt) → told ps st was ≡ all → was ≡ [] → ps ≡ all
 unfolding entries
 none_left ps all st was inv p = sym (append-nil ps) ∙ ap (λ (ts : Spelt). told ps st ts) (sym p) ∙ inv
@@ -110,20 +99,9 @@ pub child_built :
     v₂ ≡ child parent name
 child_built parent name v₀ v₁ v₂ p q r = r ∙ ap (λ (l : Bytes). l ++ name) q ∙ append_assoc v₀ (47 ∷ []) name ∙ ap (λ (l : Bytes). l ++ (47 ∷ name)) p
 
-pub stem-kept :
-    (v₀ v₁ parent top : Bytes) →
-    v₀ ≡ [] →
-    v₁ ≡ v₀ ++ parent →
-    parent ≡ top →
-    false ≡ bytes_eq parent root →
-    v₁ ≡ stem top
+pub stem_made : (b : Bool) (parent v : Bytes) → b ≡ bytes_eq parent root → v ≡ cond b [] parent → v ≡ stem parent
 unfolding stem
-stem-kept v₀ v₁ parent top p q e f =
-    q ∙ ap (λ (l : Bytes). l ++ parent) p ∙ ap (λ (b : Bool). cond b [] parent) f ∙ ap stem e
-
-pub stem-none : (v₀ parent top : Bytes) → v₀ ≡ [] → parent ≡ top → true ≡ bytes_eq parent root → v₀ ≡ stem top
-unfolding stem
-stem-none v₀ parent top p e f = p ∙ ap (λ (b : Bool). cond b [] parent) f ∙ ap stem e
+stem_made b parent v e p = p ∙ ap (λ (c : Bool). cond c [] parent) e
 
 -- a row with this path behind the others
 pub row_more :

@@ -108,10 +108,6 @@ runs-open began (x ∷ xs) z e =
 pub text_open : (v xs : List ℕ) (z : ℕ) → v ≡ xs ++ (z ∷ []) → (z == 0) ≡ false → false ≡ is_text v
 text_open v xs z p e = sym (text-ends v xs z p ∙ runs-open false xs z e)
 
-pub text_none : (v : List ℕ) → length v ≡ 0 → false ≡ is_text v
-text_none [] h = refl
-text_none (b ∷ v) h = absurd (omega (arith, h))
-
 -- ---- between quotes
 
 pub shown-more :
@@ -124,12 +120,3 @@ shown-more v i h = ap shown_bytes (take_more v i 0 h) ∙ shown-last (take i v) 
     shown-last : (xs : List ℕ) (b : ℕ) → shown_bytes (xs ++ (b ∷ [])) ≡ shown_bytes xs ++ shown_byte b
     shown-last [] b = append-nil (shown_byte b)
     shown-last (x ∷ xs) b = ap (λ l. shown_byte x ++ l) (shown-last xs b) ∙ sym (append_assoc (shown_byte x) (shown_bytes xs) (shown_byte b))
-
--- a first part, a middle one and a last one, appended one after another
-pub thrice :
-    (v₀ v₁ v₂ v₃ a b c : List ℕ) →
-    v₁ ≡ v₀ ++ a →
-    v₂ ≡ v₁ ++ b →
-    v₃ ≡ v₂ ++ c →
-    v₃ ≡ v₀ ++ (a ++ (b ++ c))
-thrice v₀ v₁ v₂ v₃ a b c p q r = rw (r, q, p) (simp append_assoc)

@@ -23,6 +23,7 @@ place_of p = (vec_items p.path, option_map (λ x. x.now) p.name)
 abbrev pub place_order : RowPlace → RowPlace → Ordering
 place_order p q = order (place_of p) (place_of q)
 
+-- which is a total order
 pub place_total : IsTotalOrder place_order
 place_total = record {
   antisymm = λ x y. place-order.flip (place_of x) (place_of y);

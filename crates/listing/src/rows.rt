@@ -2,6 +2,7 @@
 ghost use Rattle.std.specs.Prelude.{◌≡◌, refl, [], ◌∷◌, ◌++◌, IfOk, OnOk};
 ghost use Rattle.std.specs.Cmp.{eq_by_cmp_equiv, partial_equiv_from_equiv, partial_order_from_total};
 ghost use Rattle.std.specs.Ordering.{as_partial_cmp, eq_by_cmp};
+ghost use Rattle.names.specs.Paths.{child};
 ghost use Rattle.reader.specs.Format.{Spelt};
 ghost use Rattle.reader.specs.Handing.{ahead, item_of};
 ghost use Rattle.reader.specs.Reading.{entries, path_in, innermost as top};
@@ -93,6 +94,19 @@ pub fn arrange<'a>(heap: Global, rows: Vec<Row<'a>>) -> Result<Sorted<'a>, Alloc
     Ok(sorted)
 }
 
+// The path of a child: the root's own slash does not come twice.
+fn child_path(heap: Global, parent: &[u8], name: &[u8]) -> Result<Vec<u8>, AllocError>
+    ensures { IfOk result (λ v. v.items ≡ child parent.now name.now) }
+{
+    let mut path = Vec::new(heap);
+    if parent != ROOT {
+        path.extend_from_slice(parent)?;
+    }
+    path.push(b'/')?;
+    path.extend_from_slice(name)?;
+    Ok(path)
+}
+
 // The rows of the tokens so far, and the paths of the open nodes, the innermost last.
 #[derive(Drop)]
 struct Collector<'a> {
@@ -119,14 +133,7 @@ impl<'a> Collector<'a> {
         if self.trail.is_empty() {
             return Vec::from_slice(heap, ROOT);
         }
-        let mut path = Vec::new(heap);
-        let parent = self.innermost();
-        if parent != ROOT {
-            path.extend_from_slice(parent)?;
-        }
-        path.push(b'/')?;
-        path.extend_from_slice(name)?;
-        Ok(path)
+        child_path(heap, self.innermost(), name)
     }
 
     // A row for a node that begins, which is then open.
