@@ -1,5 +1,5 @@
 -- The node at a path, name by name. Assumes nothing.
-use Rattle.std.proofs.Common.{◌≡◌, ℕ, suc, ◌+◌, ◌-◌, ◌<◌, ◌≤◌, Bool, true, false, cond, eqb, List, [], ◌∷◌, ◌++◌, length, take, drop, Some, None, Option, sym, refl, ap, ◌∙◌, subst, ⊎_elim, append_assoc, add-one, arith}
+use Rattle.std.proofs.Common.{◌≡◌, ℕ, suc, ◌+◌, ◌<◌, ◌≤◌, Bool, true, false, cond, eqb, List, [], ◌∷◌, ◌++◌, length, take, drop, Some, None, Option, sym, refl, ap, ◌∙◌, subst, ⊎_elim, append_assoc, add-one, arith}
 use Rattle.std.proofs.lemmas.List.{take-append-drop, drop_more, take_more, take-take, take_all, length-drop, drop-take, nil_from_length}
 use Rattle.std.proofs.lemmas.Bool.{not_from_false, and_from, eqb-true, cases_eq}
 use Rattle.names.specs.Names.{before}

@@ -1,4 +1,4 @@
-use Rattle.std.proofs.Common.{◌≤◌, length, None, sym, ◌∙◌, arith}
+use Rattle.std.proofs.Common.{None, sym, ◌∙◌, arith}
 use Rattle.nexts.specs.Kids.{shown_name}
 use Rattle.tape.proofs.Looks.{look_missing, look-node, arrived_at, strayed}
 use Rattle.nexts.proofs.Asked.{next-absent, next-short, next-is, shown_ok, held_by}

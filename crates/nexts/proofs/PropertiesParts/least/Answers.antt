@@ -1,4 +1,4 @@
-use Rattle.std.proofs.Common.{◌≤◌, length, map, sym, ap, ◌∙◌, arith}
+use Rattle.std.proofs.Common.{map, sym, ap, ◌∙◌, arith}
 use Rattle.store.specs.Calls.{least_after}
 use Rattle.names.proofs.NameLaws.{property_names}
 use Rattle.tape.specs.Iters.{properties_left}

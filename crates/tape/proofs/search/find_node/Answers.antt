@@ -1,5 +1,5 @@
-use Rattle.std.proofs.Common.{◌+◌, ◌-◌, ◌≤◌, [], ◌∷◌, ◌++◌, length, take, drop, sym, ap, ◌∙◌, subst, arith, rules}
-use Rattle.std.proofs.lemmas.List.{take_rest, length-append}
+use Rattle.std.proofs.Common.{◌+◌, ◌-◌, [], ◌∷◌, ◌++◌, length, take, drop, sym, ap, ◌∙◌, subst, arith, rules}
+use Rattle.std.proofs.lemmas.List.{take_rest}
 use Rattle.tape.specs.Nodes.{Missing}
 use Rattle.tape.specs.Tapes.{stem_at}
 use Rattle.tape.proofs.Descent.{long_enough, first-slash, root-only, not_root, root-stem, lost, arrived, onward}
@@ -39,13 +39,6 @@ returns-then-n-rest g c =
     let v = parts (g.T.Tape.boot t) (g.T.Tape.nodes t) (g.T.Tape.sound t) in
     let m = arrived (g.T.Tape.nodes t) v.shape v.once (g.T.Tape.spot t) (g.T.Tape.spotted t) c.loop-s.at c.loop-s.invariant.0 c.loop-s.rest.now c.args.path.now c.loop-s.invariant.1 c.find-n.result c.find-n.ensures.value c.find-n.ensures.within c.find_child.result c.find_child.ensures c.in-Some.s c.in-Some.is c.if-n-rest.true in
     (m.0, m.1 ∙ sym (not_root c.args.path.now c.if-path-eq1.false))
-
-pub overflow_add-rest : goal.overflow_add-rest
-overflow_add-rest g c =
-    let s = stem_at (g.T.Tape.nodes c.args.t.now) c.loop-s.at.node in
-    let l = sym (length-append s (47 ∷ c.loop-s.rest.now)) ∙ ap length c.loop-s.invariant.1 in
-    let h : c.find-n.result + 1 ≤ length c.args.path.now = omega (arith, l, c.find-n.ensures.within) in
-    search rules
 
 pub loop-s-preserved : goal.loop-s-preserved
 loop-s-preserved g c =
