@@ -121,10 +121,6 @@ pub shaped-dressed : (xs ys : List Node) (n : Node) (ps : List Property) → sha
 shaped-dressed [] ys n ps = refl
 shaped-dressed (x ∷ xs) ys n ps = ap (λ b. (eqb x.depth 0 && eqb (length x.name) 0) && b) (fits-dressed 0 xs ys n ps)
 
-step-dressed : (s : Bytes) (n : Node) (ps : List Property) → step s (dressed n ps) ≡ step s n
-unfolding step
-step-dressed s n ps = refl
-
 pub spread-dressed : (xs ys : List Node) (n : Node) (ps : List Property) → spread [] (xs ++ (dressed n ps ∷ ys)) ≡ spread [] xs ++ ((node_at (path_of (step (ended [] xs) n)), []) ∷ (listed (path_of (step (ended [] xs) n)) ps ++ spread (step (ended [] xs) n) ys))
 unfolding spread step
 spread-dressed xs ys n ps = spread_join [] xs (dressed n ps ∷ ys)

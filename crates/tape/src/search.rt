@@ -44,10 +44,10 @@ pub fn find_node<T: Tape>(t: &T, path: &[u8]) -> Option<Spot>
     let mut rest = &path[1..];
     loop {
         let n = find(rest, SLASH);
-        match find_child(t, at, &rest[0..n]) {
-            None => return None,
-            Some(s) => at = s,
-        }
+        let Some(s) = find_child(t, at, &rest[..n]) else {
+            return None;
+        };
+        at = s;
         if n == rest.len() {
             return Some(at);
         }

@@ -1,5 +1,5 @@
 // The writes of a store, on any tape.
-ghost use Rattle.std.specs.Prelude.{◌≡◌, ◌+◌, ◌-◌, ◌^◌, ◌<◌, ◌≤◌, true, [], length, Some, None};
+ghost use Rattle.std.specs.Prelude.{◌≡◌, [], Some, None};
 ghost use Rattle.store.specs.Calls.{add_node, drop_node, set_property, drop_property, changed, settled};
 ghost use Rattle.tape.specs.Nodes.{meaning_of};
 ghost use Rattle.tape.specs.Tapes.{Here, busy};

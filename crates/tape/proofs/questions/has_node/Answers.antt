@@ -1,4 +1,4 @@
-use Rattle.std.proofs.Common.{is_some, Ok, sym, ap, ◌∙◌}
+use Rattle.std.proofs.Common.{Ok, sym, ap, ◌∙◌}
 use Rattle.tape.proofs.Looks.{has-at, has-is}
 use Rattle.tape.proofs.questions.has_node.Goals as goal
 

@@ -1,4 +1,4 @@
-use Rattle.std.proofs.Common.{◌≡◌, ◌+◌, ◌-◌, ◌≤◌, [], length, None, Err, sym, refl, ap, ◌∙◌, subst, arith, rules}
+use Rattle.std.proofs.Common.{◌≡◌, ◌+◌, ◌-◌, ◌≤◌, [], length, None, Err, sym, ap, ◌∙◌, subst, arith, rules}
 use Rattle.names.specs.Paths.{path_text, stem, leaf, parent}
 use Rattle.std.proofs.lemmas.List.{length-drop, take_rest}
 use Rattle.store.specs.declared.Refusal.TheVariants.{Limit}

@@ -1,4 +1,4 @@
-use Rattle.std.proofs.Common.{◌≡◌, ◌-◌, ◌≤◌, ◌∷◌, length, set, None, Err, sym, ap, ◌∙◌, subst, arith, rules}
+use Rattle.std.proofs.Common.{◌≡◌, ◌≤◌, ◌∷◌, length, set, None, Err, sym, ap, ◌∙◌, subst, arith, rules}
 use Rattle.store.specs.declared.Refusal.TheVariants.{Limit}
 use Rattle.tree.specs.Counting.{property_fits, property_weight, without_property}
 use Rattle.tape.specs.Nodes.{meaning_of, valid}

@@ -1,4 +1,4 @@
-use Rattle.std.proofs.Common.{◌≡◌, ◌+◌, ◌<◌, ◌∷◌, length, drop, sym, ap, ◌∙◌, arith}
+use Rattle.std.proofs.Common.{◌+◌, ◌<◌, ◌∷◌, length, drop, sym, ap, ◌∙◌, arith}
 use Rattle.tape.specs.Iters.{ChildrenReady, children_in, children_left, with_name}
 use Rattle.tape.proofs.Steps.{children-end, children-left, children-more, children-past, progress}
 use Rattle.tape.proofs.iters.ChildrenIterator.next.Goals as goal

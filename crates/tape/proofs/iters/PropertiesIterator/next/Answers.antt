@@ -1,4 +1,4 @@
-use Rattle.std.proofs.Common.{◌≡◌, ◌+◌, ◌<◌, ◌∷◌, length, drop, sym, ap, ◌∙◌, subst, arith}
+use Rattle.std.proofs.Common.{◌+◌, ◌<◌, ◌∷◌, length, drop, sym, ap, ◌∙◌, subst, arith}
 use Rattle.tape.specs.Tapes.{properties_at}
 use Rattle.tape.specs.Iters.{PropertiesReady, entries, properties_left, with_name}
 use Rattle.tape.proofs.Steps.{entries-end, entries-more, progress}
