@@ -10,7 +10,7 @@ use Rattle.packed.specs.declared.region.Region.{Region}
 use Rattle.packed.proofs.Cursors.{Cursor}
 use Rattle.packed.proofs.Spots.{deep, at-ends, room_for, kind-end, kind-past}
 use Rattle.packed.proofs.Tokens.{size_join, size-one, size-ends}
-use Rattle.packed.proofs.Decoded.{opened_at}
+use Rattle.packed.proofs.Places.{open_at}
 use Rattle.packed.proofs.reading.Packed.begin.Goals as goal
 
 module _ (x : Region) (o : Open x) (s : Spot) (h : Here (nodes_of x) (spot_of (nodes_of x)) s) where
@@ -63,27 +63,27 @@ module _ (x : Region) (o : Open x) (s : Spot) (h : Here (nodes_of x) (spot_of (n
 
 pub loop-at-init : goal.loop-at-init
 loop-at-init c s h a p =
-    let l = low c.args.self.now.region (opened_at c.args.self.now.region c.args.self.now.intact _ c.requires.inside) s h in
+    let l = low c.args.self.now.region (open_at c.args.self.now _ c.requires.inside) s h in
     let z = size-ends (s.property - c.args.s.property) in
     (omega arith, omega arith, omega arith)
 
 pub be32_at-requires : goal.be32_at-requires
-be32_at-requires c = (room c.args.self.now.region (opened_at c.args.self.now.region c.args.self.now.intact _ c.requires.inside) c.args.s c.requires c.loop-at.at c.loop-at.depth (c.loop-at.invariant c.args.s c.requires refl refl)).0
+be32_at-requires c = (room c.args.self.now.region (open_at c.args.self.now _ c.requires.inside) c.args.s c.requires c.loop-at.at c.loop-at.depth (c.loop-at.invariant c.args.s c.requires refl refl)).0
 
 pub overflow_add-at : goal.overflow_add-at
-overflow_add-at c = let r = (room c.args.self.now.region (opened_at c.args.self.now.region c.args.self.now.intact _ c.requires.inside) c.args.s c.requires c.loop-at.at c.loop-at.depth (c.loop-at.invariant c.args.s c.requires refl refl)).1 in omega arith
+overflow_add-at c = let r = (room c.args.self.now.region (open_at c.args.self.now _ c.requires.inside) c.args.s c.requires c.loop-at.at c.loop-at.depth (c.loop-at.invariant c.args.s c.requires refl refl)).1 in omega arith
 
 pub overflow_sub-depth : goal.overflow_sub-depth
-overflow_sub-depth c = let r = more c.args.self.now.region (opened_at c.args.self.now.region c.args.self.now.intact _ c.requires.inside) c.args.s c.requires c.loop-at.at c.loop-at.depth (c.loop-at.invariant c.args.s c.requires refl refl) (omega arith) in omega arith
+overflow_sub-depth c = let r = more c.args.self.now.region (open_at c.args.self.now _ c.requires.inside) c.args.s c.requires c.loop-at.at c.loop-at.depth (c.loop-at.invariant c.args.s c.requires refl refl) (omega arith) in omega arith
 
 pub loop-at-smaller : goal.loop-at-smaller
-loop-at-smaller c = let r = more c.args.self.now.region (opened_at c.args.self.now.region c.args.self.now.intact _ c.requires.inside) c.args.s c.requires c.loop-at.at c.loop-at.depth (c.loop-at.invariant c.args.s c.requires refl refl) (omega arith) in omega arith
+loop-at-smaller c = let r = more c.args.self.now.region (open_at c.args.self.now _ c.requires.inside) c.args.s c.requires c.loop-at.at c.loop-at.depth (c.loop-at.invariant c.args.s c.requires refl refl) (omega arith) in omega arith
 
 pub loop-at-preserved : goal.loop-at-preserved
-loop-at-preserved c s h a p = again c.args.self.now.region (opened_at c.args.self.now.region c.args.self.now.intact _ c.requires.inside) s h c.loop-at.at c.loop-at.depth (c.loop-at.invariant s h a p) (more c.args.self.now.region (opened_at c.args.self.now.region c.args.self.now.intact _ c.requires.inside) s h c.loop-at.at c.loop-at.depth (c.loop-at.invariant s h a p) (omega arith))
+loop-at-preserved c s h a p = again c.args.self.now.region (open_at c.args.self.now _ c.requires.inside) s h c.loop-at.at c.loop-at.depth (c.loop-at.invariant s h a p) (more c.args.self.now.region (open_at c.args.self.now _ c.requires.inside) s h c.loop-at.at c.loop-at.depth (c.loop-at.invariant s h a p) (omega arith))
 
 pub returns : goal.returns
 returns c =
     let i = c.loop-at.invariant c.args.s c.requires refl refl in
-    let e = last c.args.self.now.region (opened_at c.args.self.now.region c.args.self.now.intact _ c.requires.inside) c.args.s c.requires c.loop-at.at c.loop-at.depth i (λ k. c.loop-at-test.false (c.be32_at.ensures ∙ k)) in
-    record { depth = e; at = done c.args.self.now.region (opened_at c.args.self.now.region c.args.self.now.intact _ c.requires.inside) c.args.s c.requires c.loop-at.at c.loop-at.depth i e }
+    let e = last c.args.self.now.region (open_at c.args.self.now _ c.requires.inside) c.args.s c.requires c.loop-at.at c.loop-at.depth i (λ k. c.loop-at-test.false (c.be32_at.ensures ∙ k)) in
+    record { depth = e; at = done c.args.self.now.region (open_at c.args.self.now _ c.requires.inside) c.args.s c.requires c.loop-at.at c.loop-at.depth i e }

@@ -6,7 +6,7 @@ use Rattle.packed.specs.Packing.{mark_of}
 use Rattle.packed.specs.Regions.{memory, nodes_of, Open}
 use Rattle.packed.specs.declared.region.Region.{Region}
 use Rattle.packed.proofs.Marks.{past_last, mark-room, mark-next, size-here, property-room, first-mark}
-use Rattle.packed.proofs.Decoded.{opened_at}
+use Rattle.packed.proofs.Places.{open_at}
 use Rattle.packed.proofs.reading.Packed.run.Goals as goal
 
 module _ (x : Region) (o : Open x) (i : ℕ) (l : i < length (nodes_of x)) (at count : ℕ)
@@ -44,38 +44,38 @@ module _ (x : Region) (o : Open x) (i : ℕ) (l : i < length (nodes_of x)) (at c
         omega arith
 
 pub loop-n-init : goal.loop-n-init
-loop-n-init c = (omega arith, λ i l e. (omega arith, e ∙ first-mark c.args.self.now.region (opened_at c.args.self.now.region c.args.self.now.intact _ c.requires.here.inside) i l))
+loop-n-init c = (omega arith, λ i l e. (omega arith, e ∙ first-mark c.args.self.now.region (open_at c.args.self.now _ c.requires.here.inside) i l))
 
 pub be32_at-requires : goal.be32_at-requires
-be32_at-requires c = let v = c.loop-n.invariant.1 c.args.s.node c.requires.here.inside c.requires.from in (room c.args.self.now.region (opened_at c.args.self.now.region c.args.self.now.intact _ c.requires.here.inside) c.args.s.node c.requires.here.inside c.loop-n.at c.loop-n.count v.0 v.1).0
+be32_at-requires c = let v = c.loop-n.invariant.1 c.args.s.node c.requires.here.inside c.requires.from in (room c.args.self.now.region (open_at c.args.self.now _ c.requires.here.inside) c.args.s.node c.requires.here.inside c.loop-n.at c.loop-n.count v.0 v.1).0
 
 pub overflow_add-at : goal.overflow_add-at
-overflow_add-at c = let v = c.loop-n.invariant.1 c.args.s.node c.requires.here.inside c.requires.from in let r = (room c.args.self.now.region (opened_at c.args.self.now.region c.args.self.now.intact _ c.requires.here.inside) c.args.s.node c.requires.here.inside c.loop-n.at c.loop-n.count v.0 v.1).1 in omega arith
+overflow_add-at c = let v = c.loop-n.invariant.1 c.args.s.node c.requires.here.inside c.requires.from in let r = (room c.args.self.now.region (open_at c.args.self.now _ c.requires.here.inside) c.args.s.node c.requires.here.inside c.loop-n.at c.loop-n.count v.0 v.1).1 in omega arith
 
 pub be32_at-n-requires : goal.be32_at-n-requires
 be32_at-n-requires c =
     let v = c.loop-n.invariant.1 c.args.s.node c.requires.here.inside c.requires.from in
-    let r = (inside c.args.self.now.region (opened_at c.args.self.now.region c.args.self.now.intact _ c.requires.here.inside) c.args.s.node c.requires.here.inside c.loop-n.at c.loop-n.count v.0 v.1 (omega arith)).1 in
+    let r = (inside c.args.self.now.region (open_at c.args.self.now _ c.requires.here.inside) c.args.s.node c.requires.here.inside c.loop-n.at c.loop-n.count v.0 v.1 (omega arith)).1 in
     omega arith
 
 pub overflow_add-at-in-loop-n-2 : goal.overflow_add-at-in-loop-n-2
 overflow_add-at-in-loop-n-2 c =
     let v = c.loop-n.invariant.1 c.args.s.node c.requires.here.inside c.requires.from in
-    let r = (inside c.args.self.now.region (opened_at c.args.self.now.region c.args.self.now.intact _ c.requires.here.inside) c.args.s.node c.requires.here.inside c.loop-n.at c.loop-n.count v.0 v.1 (omega arith)).0 in
+    let r = (inside c.args.self.now.region (open_at c.args.self.now _ c.requires.here.inside) c.args.s.node c.requires.here.inside c.loop-n.at c.loop-n.count v.0 v.1 (omega arith)).0 in
     let w = ap pad4 c.be32_at-n.ensures in
     omega arith
 
 pub overflow_add-count : goal.overflow_add-count
 overflow_add-count c =
     let v = c.loop-n.invariant.1 c.args.s.node c.requires.here.inside c.requires.from in
-    let r = (room c.args.self.now.region (opened_at c.args.self.now.region c.args.self.now.intact _ c.requires.here.inside) c.args.s.node c.requires.here.inside c.loop-n.at c.loop-n.count v.0 v.1).1 in
+    let r = (room c.args.self.now.region (open_at c.args.self.now _ c.requires.here.inside) c.args.s.node c.requires.here.inside c.loop-n.at c.loop-n.count v.0 v.1).1 in
     let k = c.loop-n.invariant.0 in
     omega arith
 
 pub loop-n-smaller : goal.loop-n-smaller
 loop-n-smaller c =
     let v = c.loop-n.invariant.1 c.args.s.node c.requires.here.inside c.requires.from in
-    let r = (room c.args.self.now.region (opened_at c.args.self.now.region c.args.self.now.intact _ c.requires.here.inside) c.args.s.node c.requires.here.inside c.loop-n.at c.loop-n.count v.0 v.1).1 in
+    let r = (room c.args.self.now.region (open_at c.args.self.now _ c.requires.here.inside) c.args.s.node c.requires.here.inside c.loop-n.at c.loop-n.count v.0 v.1).1 in
     omega arith
 
 pub loop-n-preserved : goal.loop-n-preserved
@@ -84,8 +84,8 @@ loop-n-preserved c =
       omega arith,
       λ i l e.
           let v = c.loop-n.invariant.1 i l e in
-          let m = more c.args.self.now.region (opened_at c.args.self.now.region c.args.self.now.intact _ c.requires.here.inside) i l c.loop-n.at c.loop-n.count v.0 v.1 (omega arith) in
-          let n = next c.args.self.now.region (opened_at c.args.self.now.region c.args.self.now.intact _ c.requires.here.inside) i l c.loop-n.at c.loop-n.count v.0 v.1 (omega arith) in
+          let m = more c.args.self.now.region (open_at c.args.self.now _ c.requires.here.inside) i l c.loop-n.at c.loop-n.count v.0 v.1 (omega arith) in
+          let n = next c.args.self.now.region (open_at c.args.self.now _ c.requires.here.inside) i l c.loop-n.at c.loop-n.count v.0 v.1 (omega arith) in
           let w = ap pad4 c.be32_at-n.ensures in
           (omega arith, omega arith),
     )
@@ -94,6 +94,6 @@ pub returns : goal.returns
 returns c =
     let v = c.loop-n.invariant.1 c.args.s.node c.requires.here.inside c.requires.from in
     record {
-      count = last c.args.self.now.region (opened_at c.args.self.now.region c.args.self.now.intact _ c.requires.here.inside) c.args.s.node c.requires.here.inside c.loop-n.at c.loop-n.count v.0 v.1 (λ k. c.loop-n-test.false (c.be32_at.ensures ∙ k));
+      count = last c.args.self.now.region (open_at c.args.self.now _ c.requires.here.inside) c.args.s.node c.requires.here.inside c.loop-n.at c.loop-n.count v.0 v.1 (λ k. c.loop-n-test.false (c.be32_at.ensures ∙ k));
       end = v.1;
     }
