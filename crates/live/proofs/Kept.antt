@@ -17,7 +17,7 @@ use Rattle.live.proofs.Coded.{bytes_join, cells_join, property-bytes_join}
 
 -- ---- a list of nodes around one of them
 
-at_index : (ns : List Node) (i : ℕ) → i < length ns → ns ≡ take i ns ++ (nth ns i ∷ drop (i + 1) ns)
+pub at_index : (ns : List Node) (i : ℕ) → i < length ns → ns ≡ take i ns ++ (nth ns i ∷ drop (i + 1) ns)
 at_index ns i h = sym (take-append-drop i ns) ∙ ap (λ t. take i ns ++ t) (drop_more ns i nowhere h)
 
 module _ (ns : List Node) (i : ℕ) (h : i < length ns) where
@@ -48,7 +48,7 @@ module _ (ns : List Node) (i : ℕ) (h : i < length ns) where
     abbrev x : Property
     x = property_of ns i k
 
-    cut_up : properties_at ns i ≡ take k (properties_at ns i) ++ (x ∷ drop (k + 1) (properties_at ns i))
+    pub cut_up : properties_at ns i ≡ take k (properties_at ns i) ++ (x ∷ drop (k + 1) (properties_at ns i))
     cut_up = sym (take-append-drop k (properties_at ns i)) ∙ ap (λ t. take k (properties_at ns i) ++ t) (drop_more (properties_at ns i) k ([], []) l)
 
     -- the pool around a property's name and value
