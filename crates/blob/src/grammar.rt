@@ -3,20 +3,16 @@ ghost use Rattle.blob.specs.Grammar.{TokenSound, TokenComplete, TokenUnique, Tok
 ghost use Rattle.blob.specs.Lexing.{TokensFollow, TokensOnly, TokensRise};
 
 // A token is found just where one stands.
-pub fn tokens_stand() -> u8
+pub fn tokens_stand()
     ensures sound { TokenSound }
     ensures complete { TokenComplete }
     ensures unique { TokenUnique }
     ensures ahead { TokenAhead }
-{
-    0
-}
+{}
 
 // The list of tokens is the one that the format has, and their offsets rise.
-pub fn lexing_stands() -> u8
+pub fn lexing_stands()
     ensures follow { TokensFollow }
     ensures only { TokensOnly }
     ensures rise { TokensRise }
-{
-    0
-}
+{}

@@ -1,7 +1,8 @@
 // The header of a blob.
-ghost use Rattle.std.specs.Prelude.{◌≡◌, ◌≤◌, true, length, IfOk};
+ghost use Rattle.std.specs.Prelude.{◌≡◌, ◌^◌, ◌<◌, ◌≤◌, true, length, IfOk};
 ghost use Rattle.names.specs.Names.{each};
 ghost use Rattle.blob.specs.Grammar.{Accepts};
+ghost use Rattle.tree.specs.Numbers.{be32};
 ghost use Rattle.blob.specs.Header.{total_size, identified, versioned, is_zero, placed, layout_of, header, Within};
 
 use crate::numbers::be32_at;
@@ -9,11 +10,11 @@ use crate::types::{Layout, Refusal};
 
 const HEADER_SIZE: usize = 40;
 
-const MAGIC: u32 = 0xd00d_feed;
+const MAGIC: usize = 0xd00d_feed;
 
-const VERSION: u32 = 17;
+const VERSION: usize = 17;
 
-const COMPATIBLE: u32 = 16;
+const COMPATIBLE: usize = 16;
 
 const LARGEST: usize = 40960;
 // The reservation block is its end mark alone: a pair of 64-bit zeros.
@@ -44,73 +45,77 @@ const AT_STRINGS_SIZE: usize = 32;
 
 const AT_STRUCTURE_SIZE: usize = 36;
 
-fn is_identified(bytes: &[u8]) -> bool
-    ensures value { result ≡ identified bytes.now }
-    ensures bounds { result ≡ true → (40 ≤ length bytes.now) × (total_size bytes.now ≤ length bytes.now) }
-{
-    if bytes.len() < HEADER_SIZE {
-        return false;
-    }
-    let total = be32_at(bytes, AT_TOTAL) as usize;
-    be32_at(bytes, AT_MAGIC) == MAGIC && total >= HEADER_SIZE && total <= bytes.len()
+// Bytes that have room for a header.
+#[derive(Clone, Copy)]
+struct Header<'a> {
+    bytes: &'a [u8],
+    ghost whole: { 40 ≤ length bytes.now },
 }
 
-fn is_versioned(bytes: &[u8]) -> bool
-    requires { 40 ≤ length bytes.now }
-    ensures { result ≡ versioned bytes.now }
-{
-    be32_at(bytes, AT_VERSION) == VERSION && be32_at(bytes, AT_COMPATIBLE) == COMPATIBLE
+impl Header<'_> {
+    fn number(&self, at: usize) -> usize
+        requires { at ≤ 36 }
+        ensures value { result ≡ be32 self.now.bytes.now at }
+        ensures small { result < 2 ^ 32 }
+    {
+        be32_at(self.bytes, at) as usize
+    }
+
+    #[tactic(auto, unfolding(crate::specs::Header::identified))]
+    fn is_identified(&self) -> bool
+        ensures value { result ≡ identified self.now.bytes.now }
+        ensures bounds { result ≡ true → total_size self.now.bytes.now ≤ length self.now.bytes.now }
+    {
+        let total = self.number(AT_TOTAL);
+        self.number(AT_MAGIC) == MAGIC && total >= HEADER_SIZE && total <= self.bytes.len()
+    }
+
+    #[tactic(auto, unfolding(crate::specs::Header::versioned))]
+    fn is_versioned(&self) -> bool
+        ensures { result ≡ versioned self.now.bytes.now }
+    {
+        self.number(AT_VERSION) == VERSION && self.number(AT_COMPATIBLE) == COMPATIBLE
+    }
+
+    #[tactic(auto, unfolding(crate::specs::Header::placed))]
+    fn is_placed(&self) -> bool
+        requires { total_size self.now.bytes.now ≤ length self.now.bytes.now }
+        ensures { result ≡ placed self.now.bytes.now }
+    {
+        let total = self.number(AT_TOTAL);
+        let structure = self.number(AT_STRUCTURE);
+        let strings = self.number(AT_STRINGS);
+        let reservation = self.number(AT_RESERVATION);
+        if structure + self.number(AT_STRUCTURE_SIZE) > total
+            || strings + self.number(AT_STRINGS_SIZE) > total
+            || reservation + RESERVATION_SIZE > total
+        {
+            return false;
+        }
+        reservation % RESERVATION_ALIGN == 0
+            && structure % STRUCTURE_ALIGN == 0
+            && all_zero(&self.bytes[reservation..reservation + RESERVATION_SIZE])
+    }
+
+    fn layout(&self) -> Layout
+        ensures { result ≡ layout_of self.now.bytes.now }
+    {
+        let start = self.number(AT_STRUCTURE);
+        let strings = self.number(AT_STRINGS);
+        Layout {
+            start,
+            end: start + self.number(AT_STRUCTURE_SIZE),
+            strings,
+            strings_end: strings + self.number(AT_STRINGS_SIZE),
+            boot: be32_at(self.bytes, AT_BOOT),
+        }
+    }
 }
 
 fn all_zero(s: &[u8]) -> bool
     ensures { result ≡ each is_zero s.now }
 {
-    for x in s {
-        if *x != 0 {
-            return false;
-        }
-    }
-    true
-}
-
-fn is_placed(bytes: &[u8]) -> bool
-    requires head { 40 ≤ length bytes.now }
-    requires total { total_size bytes.now ≤ length bytes.now }
-    ensures { result ≡ placed bytes.now }
-{
-    let total = be32_at(bytes, AT_TOTAL) as usize;
-    let structure = be32_at(bytes, AT_STRUCTURE) as usize;
-    let strings = be32_at(bytes, AT_STRINGS) as usize;
-    let reservation = be32_at(bytes, AT_RESERVATION) as usize;
-    let strings_size = be32_at(bytes, AT_STRINGS_SIZE) as usize;
-    let structure_size = be32_at(bytes, AT_STRUCTURE_SIZE) as usize;
-    if structure + structure_size > total
-        || strings + strings_size > total
-        || reservation + RESERVATION_SIZE > total
-    {
-        return false;
-    }
-    reservation % RESERVATION_ALIGN == 0
-        && structure % STRUCTURE_ALIGN == 0
-        && all_zero(&bytes[reservation..reservation + RESERVATION_SIZE])
-}
-
-fn layout_of(bytes: &[u8]) -> Layout
-    requires { 40 ≤ length bytes.now }
-    ensures { result ≡ layout_of bytes.now }
-{
-    let start = be32_at(bytes, AT_STRUCTURE) as usize;
-    let strings = be32_at(bytes, AT_STRINGS) as usize;
-    let end = start + be32_at(bytes, AT_STRUCTURE_SIZE) as usize;
-    let strings_end = strings + be32_at(bytes, AT_STRINGS_SIZE) as usize;
-    let boot = be32_at(bytes, AT_BOOT);
-    Layout {
-        start,
-        end,
-        strings,
-        strings_end,
-        boot,
-    }
+    s.iter().all(|x| *x == 0)
 }
 
 // Where the blocks of a blob lie, or why the bytes are no blob.
@@ -119,17 +124,21 @@ pub fn check_header(bytes: &[u8]) -> Result<Layout, Refusal>
     ensures format { Accepts bytes.now result }
     ensures within { IfOk result (λ l. Within bytes.now l) }
 {
-    if !is_identified(bytes) {
+    if bytes.len() < HEADER_SIZE {
         return Err(Refusal::NotABlob);
     }
-    if !is_versioned(bytes) {
+    let header = Header { bytes };
+    if !header.is_identified() {
+        return Err(Refusal::NotABlob);
+    }
+    if !header.is_versioned() {
         return Err(Refusal::Version);
     }
-    if !is_placed(bytes) {
+    if !header.is_placed() {
         return Err(Refusal::Blocks);
     }
-    if be32_at(bytes, AT_TOTAL) as usize > LARGEST {
+    if header.number(AT_TOTAL) > LARGEST {
         return Err(Refusal::TooLarge);
     }
-    Ok(layout_of(bytes))
+    Ok(header.layout())
 }

@@ -1,6 +1,6 @@
 // Big-endian numbers.
-ghost use Rattle.std.specs.Prelude.{◌≡◌, ◌+◌, ◌^◌, ◌<◌, ◌≤◌, length};
-ghost use Rattle.tree.specs.Numbers.{be32, pad4};
+ghost use Rattle.std.specs.Prelude.{◌≡◌, ◌+◌, ◌≤◌, length};
+ghost use Rattle.tree.specs.Numbers.{be32};
 
 // The number in the four bytes at `i`.
 pub fn be32_at(bytes: &[u8], i: usize) -> u32
@@ -8,12 +8,4 @@ pub fn be32_at(bytes: &[u8], i: usize) -> u32
     ensures { result ≡ be32 bytes.now i }
 {
     u32::from_be_bytes([bytes[i], bytes[i + 1], bytes[i + 2], bytes[i + 3]])
-}
-
-// `n` rounded up to a multiple of 4.
-pub fn rounded4(n: usize) -> usize
-    requires { n + 3 < 2 ^ 64 }
-    ensures { result ≡ pad4 n }
-{
-    (n + 3) / 4 * 4
 }

@@ -3,25 +3,17 @@ ghost use Rattle.std.specs.Prelude.{◌≡◌, ◌+◌, ◌≤◌, IfSome};
 ghost use Rattle.blob.specs.Tokens.{step_of, begin_at, property_at, token_at};
 
 use crate::blob::Blob;
-use crate::numbers::{be32_at, rounded4};
+use crate::numbers::be32_at;
 use crate::text::text_at;
-use crate::types::{Step, Token};
-
-const BEGIN: u32 = 1;
-
-const END: u32 = 2;
-
-const PROPERTY: u32 = 3;
-
-const NOP: u32 = 4;
-
-const FINISH: u32 = 9;
+use crate::types::{Step, Tag, Token};
+use tree::numbers::rounded4;
 
 const TOKEN_SIZE: usize = 4;
 // A property's token, its value's length and its name's offset.
 const PROPERTY_SIZE: usize = 12;
 
 impl<'a> Blob<'a> {
+    #[tactic(auto, unfolding(crate::specs::Tokens::begin_at))]
     fn begin_at(&self, p: usize) -> Option<Step<'a>>
         requires { p + 4 ≤ self.now.layout.end }
         ensures { step_of result ≡ begin_at self.now.bytes.now self.now.layout p }
@@ -37,6 +29,7 @@ impl<'a> Blob<'a> {
         })
     }
 
+    #[tactic(auto, unfolding(crate::specs::Tokens::property_at))]
     fn property_at(&self, p: usize) -> Option<Step<'a>>
         requires { p + 4 ≤ self.now.layout.end }
         ensures { step_of result ≡ property_at self.now.bytes.now self.now.layout p }
@@ -65,6 +58,7 @@ impl<'a> Blob<'a> {
     }
 
     // The token at `p`, and where the next one starts; none where it is unknown or cut, or is a last one before the block's end.
+    #[tactic(auto, unfolding(crate::specs::Tokens::token_at))]
     pub fn token_at(&self, p: usize) -> Option<Step<'a>>
         ensures value { step_of result ≡ token_at self.now.bytes.now self.now.layout p }
         ensures bounds { IfSome result (λ s. (p + 4 ≤ s.next) × (s.next ≤ self.now.layout.end)) }
@@ -74,18 +68,13 @@ impl<'a> Blob<'a> {
             return None;
         }
         let next = p + TOKEN_SIZE;
-        let token = match be32_at(self.bytes, p) {
-            BEGIN => return self.begin_at(p),
-            PROPERTY => return self.property_at(p),
-            END => Token::End,
-            NOP => Token::Nop,
-            FINISH => {
-                if next < end {
-                    return None;
-                }
-                Token::Finish
-            }
-            _ => return None,
+        let token = match Tag::try_from(be32_at(self.bytes, p)).ok()? {
+            Tag::Begin => return self.begin_at(p),
+            Tag::Property => return self.property_at(p),
+            Tag::End => Token::End,
+            Tag::Nop => Token::Nop,
+            Tag::Finish if next == end => Token::Finish,
+            Tag::Finish => return None,
         };
         Some(Step { token, next })
     }

@@ -1,5 +1,7 @@
 // What a reader of blobs answers.
 ghost use Rattle.std.specs.Prelude.{◌≡◌, Some};
+ghost use Rattle.std.specs.Result.{result_ok};
+ghost use Rattle.blob.specs.Tags.{tag_of};
 ghost use Rattle.blob.specs.Refusals.{number_of, place_of, words_of};
 
 use std::fmt;
@@ -64,6 +66,37 @@ pub struct Layout {
     pub strings: usize,
     pub strings_end: usize,
     pub boot: u32,
+}
+
+// What kind of token begins: its number in the structure block.
+#[derive(Clone, Copy, PartialEq, Eq, Debug)]
+pub enum Tag {
+    Begin = 1,
+    End = 2,
+    Property = 3,
+    Nop = 4,
+    Finish = 9,
+}
+
+// A number that begins no token.
+#[derive(Clone, Copy, PartialEq, Eq, Debug)]
+pub struct UnknownTag(pub u32);
+
+impl TryFrom<u32> for Tag {
+    type Error = UnknownTag;
+
+    ghost try_from_gives = { λ n r. result_ok r ≡ tag_of n };
+
+    fn try_from(number: u32) -> Result<Tag, UnknownTag> {
+        match number {
+            1 => Ok(Tag::Begin),
+            2 => Ok(Tag::End),
+            3 => Ok(Tag::Property),
+            4 => Ok(Tag::Nop),
+            9 => Ok(Tag::Finish),
+            _ => Err(UnknownTag(number)),
+        }
+    }
 }
 
 // A token of the structure block; its name and value are parts of the blob.

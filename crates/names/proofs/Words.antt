@@ -1,8 +1,9 @@
 -- Words of names: the loops that look for a byte or for the end of a run, and a node name by its first run. Assumes nothing.
-use Rattle.std.proofs.Common.{◌≡◌, ℕ, suc, ◌+◌, ◌-◌, ◌<◌, ◌≤◌, Bool, true, false, cond, ◌&&◌, eqb, leb, List, [], ◌∷◌, length, get_or, take, drop, sym, refl, ap, ◌∙◌, ⊎_elim, add-one, one-add, arith}
-use Rattle.std.specs.List.{prefix_len}
+use Rattle.std.proofs.Common.{◌≡◌, ℕ, suc, ◌+◌, ◌-◌, ◌<◌, ◌≤◌, Bool, true, false, cond, not, ◌&&◌, ◌==◌, eqb, leb, List, [], ◌∷◌, length, get_or, take, drop, sym, refl, ap, ◌∙◌, ⊎_elim, add-one, one-add, arith}
+use Rattle.std.specs.List.{list_all, position, position_or_len, prefix_len}
+use Rattle.std.specs.Option.{unwrap_or}
 use Rattle.std.proofs.lemmas.List.{at_drop_more, at_drop_all, length-take-le, take_all, take_rest}
-use Rattle.std.proofs.lemmas.List.Sums.{prefix_len-drop_yes, prefix_len-drop_no, prefix_len-drop_all}
+use Rattle.std.proofs.lemmas.List.Sums.{prefix_len-le-length}
 use Rattle.std.proofs.lemmas.Bool.{cases_eq, eq-eqb, ne_eqb, cond-true, cond-false, and_from, and_left, and_right, true≢false}
 use Rattle.std.proofs.lemmas.Bool.Decides.{nat_tests}
 use Rattle.names.specs.Names.{node_byte, before, each, word, node_name}
@@ -11,31 +12,27 @@ pub before-within : (b : ℕ) (s : List ℕ) → before b s ≤ length s
 before-within b [] = omega arith
 before-within b (x ∷ s) = let h = before-within b s in grind (arith, nat_tests)
 
--- a loop that looks for b in s, and has come to i
-module _ (b : ℕ) (s : List ℕ) (i : ℕ) (inv : before b s ≡ i + before b (drop i s)) where
-  pub before-found : i < length s → get_or s i 0 ≡ b → i ≡ before b s
-  before-found h e =
-      let t : before b (drop i s) ≡ cond (eqb (get_or s i 0) b) 0 (suc (before b (drop (i + 1) s))) = at_drop_more (before b) s i 0 h in
-      grind (arith, nat_tests)
+pub each-all : {A : Type 0} (p : A → Bool) (xs : List A) → list_all p xs ≡ each p xs
+each-all p [] = refl
+each-all p (x ∷ xs) = ap (λ v. p x && v) (each-all p xs)
 
-  pub before_more : i < length s → (get_or s i 0 ≡ b → ⊥) → before b s ≡ (i + 1) + before b (drop (i + 1) s)
-  before_more h e =
-      let t : before b (drop i s) ≡ cond (eqb (get_or s i 0) b) 0 (suc (before b (drop (i + 1) s))) = at_drop_more (before b) s i 0 h in
-      grind (arith, nat_tests)
+-- the first place that passes, or the length where none does
+unless_first : {X : Type 0} (p : X → Bool) (s : List X) → unwrap_or (position p s) (length s) ≡ position_or_len p s
+unless_first p s = grind (arith, nat_tests, prefix_len-le-length (λ x. not (p x)) s)
 
-  pub before-none : i ≤ length s → length s ≤ i → length s ≡ before b s
-  before-none h k = let t : before b (drop i s) ≡ 0 = at_drop_all (before b) s i k in omega arith
+pub before-first : (b : ℕ) (s : List ℕ) → position_or_len (λ x. x == b) s ≡ before b s
+before-first b [] = refl
+before-first b (x ∷ s) = let h = before-first b s in grind (arith, nat_tests)
 
--- a loop that looks for the end of the run of p in s, and has come to i
-module _ (p : ℕ → Bool) (s : List ℕ) (i : ℕ) (inv : prefix_len p s ≡ i + prefix_len p (drop i s)) where
-  pub run_ends : i < length s → false ≡ p (get_or s i 0) → i ≡ prefix_len p s
-  run_ends h e = let t = prefix_len-drop_no p s i 0 h (sym e) in omega arith
+pub before-position : (b : ℕ) (s : List ℕ) → unwrap_or (position (λ x. x == b) s) (length s) ≡ before b s
+before-position b s = unless_first (λ x. x == b) s ∙ before-first b s
 
-  pub run_more : i < length s → true ≡ p (get_or s i 0) → prefix_len p s ≡ (i + 1) + prefix_len p (drop (i + 1) s)
-  run_more h e = let t = prefix_len-drop_yes p s i 0 h (sym e) in omega arith
-
-  pub run-all : i ≤ length s → length s ≤ i → length s ≡ prefix_len p s
-  run-all h k = let t = prefix_len-drop_all p s i k in omega arith
+pub run-position : (p : ℕ → Bool) (s : List ℕ) → unwrap_or (position (λ x. not (p x)) s) (length s) ≡ prefix_len p s
+run-position p s = unless_first (λ x. not (p x)) s ∙ go s
+  where
+    go : (s : List ℕ) → position_or_len (λ x. not (p x)) s ≡ prefix_len p s
+    go [] = refl
+    go (x ∷ s) = let h = go s in grind (arith, nat_tests)
 
 -- the run is the whole list where each passes
 pub each-run : (p : ℕ → Bool) (s : List ℕ) → each p s ≡ eqb (prefix_len p s) (length s)

@@ -43,17 +43,11 @@ pub fn class_of(b: u8) -> Class
 pub fn is_node_byte(b: u8) -> bool
     ensures { result ≡ node_byte b }
 {
-    match class_of(b) {
-        Class::Both => true,
-        Class::Property | Class::Neither => false,
-    }
+    class_of(b) == Class::Both
 }
 
 pub fn is_property_byte(b: u8) -> bool
     ensures { result ≡ property_byte b }
 {
-    match class_of(b) {
-        Class::Both | Class::Property => true,
-        Class::Neither => false,
-    }
+    class_of(b) != Class::Neither
 }

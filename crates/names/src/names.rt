@@ -17,12 +17,7 @@ pub fn find(s: &[u8], b: u8) -> usize
     ensures within { result ≤ length s.now }
     ensures value { result ≡ before b s.now }
 {
-    for (i, x) in s.iter().enumerate() {
-        if *x == b {
-            return i;
-        }
-    }
-    s.len()
+    s.iter().position(|x| *x == b).unwrap_or(s.len())
 }
 
 // Whether two texts have the same bytes.
@@ -65,21 +60,7 @@ fn run<A: Alphabet>(s: &[u8]) -> usize
     ensures within { result ≤ length s.now }
     ensures value { result ≡ prefix_len A.Alphabet.holds s.now }
 {
-    let mut i = 0;
-    while i + 1 < s.len() {
-        if !A::has(s[i]) {
-            return i;
-        }
-        if !A::has(s[i + 1]) {
-            return i + 1;
-        }
-        i += 2;
-    }
-    if i < s.len() && A::has(s[i]) {
-        i + 1
-    } else {
-        i
-    }
+    s.iter().position(|b| !A::has(*b)).unwrap_or(s.len())
 }
 
 fn is_word_length(n: usize) -> bool

@@ -13,30 +13,15 @@ use std::cmp::Ordering;
 pub const SLASH: u8 = b'/';
 
 // The laws of names, paths and their order hold.
-pub fn path_laws_stand() -> u8
+pub fn path_laws_stand()
     ensures { PathLaws }
-{
-    0
-}
+{}
 
 // Names by their bytes, a prefix first.
 pub fn compare_names(a: &[u8], b: &[u8]) -> Ordering
     ensures { result ≡ name_order a.now b.now }
 {
     a.cmp(&b)
-}
-
-// How many bytes `a` and `b` begin with alike.
-fn shared(a: &[u8], b: &[u8]) -> usize
-    ensures { result ≡ common_prefix_len nat_eq a.now b.now }
-{
-    let n = a.len().min(b.len());
-    for i in 0..n {
-        if a[i] != b[i] {
-            return i;
-        }
-    }
-    n
 }
 
 fn ranked(b: u8) -> u16
@@ -50,24 +35,19 @@ pub fn leaf_start(path: &[u8]) -> usize
     ensures within { result ≤ length path.now }
     ensures value { drop result path.now ≡ leaf path.now }
 {
-    for i in (0..path.len()).rev() {
-        if path[i] == SLASH {
-            return i + 1;
-        }
+    match path.iter().rposition(|b| *b == SLASH) {
+        Some(i) => i + 1,
+        None => 0,
     }
-    0
 }
 
 // Paths in document order.
 pub fn compare_paths(a: &[u8], b: &[u8]) -> Ordering
     ensures { result ≡ path_order a.now b.now }
 {
-    let n = shared(a, b);
-    if n < a.len() && n < b.len() {
-        ranked(a[n]).cmp(&ranked(b[n]))
-    } else {
-        a.len().cmp(&b.len())
-    }
+    a.iter()
+        .map(|x| ranked(*x))
+        .cmp(b.iter().map(|x| ranked(*x)))
 }
 
 // The path without its last name; the root is its own.
@@ -85,23 +65,16 @@ pub fn parent_of(path: &[u8]) -> &[u8]
 pub fn is_path(s: &[u8]) -> bool
     ensures { result ≡ path_text s.now }
 {
-    if s.len() == 0 || s[0] != SLASH {
-        return false;
+    match s {
+        [SLASH] => true,
+        [SLASH, names @ ..] => are_node_names(names),
+        _ => false,
     }
-    s.len() == 1 || are_node_names(&s[1..])
 }
 
 // Whether what slashes part are names of nodes.
 fn are_node_names(s: &[u8]) -> bool
     ensures { result ≡ each node_name (parts [] s.now) }
 {
-    let mut at = 0;
-    while at <= s.len() {
-        let end = at + find(&s[at..], SLASH);
-        if !is_node_name(&s[at..end]) {
-            return false;
-        }
-        at = end + 1;
-    }
-    true
+    s.split(|b| *b == SLASH).all(is_node_name)
 }

@@ -1,20 +1,12 @@
-use Rattle.std.proofs.Common.{arith}
-use Rattle.names.proofs.Words.{before-found, before_more, before-none}
+use Rattle.std.proofs.Common.{rules, eqb, ap, ◌∙◌, length}
+use Rattle.std.proofs.lemmas.Iterator.{YieldsList-from_slice}
+use Rattle.std.proofs.lemmas.Iterator.Search.{position_from_yields_List}
+use Rattle.std.specs.Option.{unwrap_or}
+use borrow.Author.Tests.{tests}
+use Rattle.names.proofs.Words.{before-position}
 use Rattle.names.proofs.names.find.Goals as goal
 
-pub returns-then-x-b : goal.returns-then-x-b
-returns-then-x-b c =
-    record {
-      within = omega arith;
-      value = before-found _ _ _ c.loop-i.invariant c.loop-i-test.true c.if-x-b.true;
-    }
-
-pub loop-i-preserved : goal.loop-i-preserved
-loop-i-preserved c = before_more _ _ _ c.loop-i.invariant c.loop-i-test.true c.if-x-b.false
-
-pub returns : goal.returns
-returns c =
-    record {
-      within = omega arith;
-      value = before-none _ _ _ c.loop-i.invariant c.loop-i.auto.i-end c.loop-i-test.false;
-    }
+pub returns-clause-value : goal.returns-clause-value
+returns-clause-value c =
+    let k = position_from_yields_List (λ x. eqb x c.args.b) _ _ c.position.result c.position.ensures.ran (YieldsList-from_slice c.args.s.now c.iter.ensures.rest) (λ x b q k. search (rules, tests)) in
+    c.unwrap_or.ensures ∙ ap (λ o. unwrap_or o (length c.args.s.now)) k ∙ before-position c.args.b c.args.s.now

@@ -1,19 +1,18 @@
-use Rattle.std.proofs.Common.{sym, ◌∙◌}
-use Rattle.std.proofs.lemmas.Bool.{eq-eqb}
+use Rattle.std.proofs.Common.{rules, ◌≡◌, length, get_or, sym, ◌∙◌, arith}
 use Rattle.names.proofs.Walks.{path_empty, path-other, path-root, path_names}
 use Rattle.names.proofs.paths.is_path.Goals as goal
-use Rattle.names.proofs.paths.is_path.Goals.{then-s-eq0-via-then-s-eq0, then-s-eq0-via-else-s-eq0+then-s-ne-SLASH}
 
-pub returns-then-s-eq0 : goal.returns-then-s-eq0
-returns-then-s-eq0 c =
-    elim c.then-s-eq0.branch [
-      | then-s-eq0-via-then-s-eq0 w ↦ sym (path_empty _ w.if-s-eq0.true)
-      | then-s-eq0-via-else-s-eq0+then-s-ne-SLASH w ↦ sym (path-other _ w.if-s-ne-SLASH.true)
-    ]
+pub returns-in-47 : goal.returns-in-47
+returns-in-47 c = sym (path-root c.args.s.now (search rules) (omega arith))
 
-pub returns-then-s-eq1 : goal.returns-then-s-eq1
-returns-then-s-eq1 c =
-    eq-eqb _ _ c.if-s-eq1.true ∙ sym (path-root _ c.if-s-ne-SLASH.false c.if-s-eq1.true)
+pub returns-in-47-2 : goal.returns-in-47-2
+returns-in-47-2 c = c.are_node_names.ensures ∙ sym (path_names c.args.s.now (search rules) (λ e. omega arith))
 
-pub returns-else-s-eq1 : goal.returns-else-s-eq1
-returns-else-s-eq1 c = c.are_node_names.ensures ∙ sym (path_names _ c.if-s-ne-SLASH.false c.if-s-eq1.false)
+pub returns-in_default : goal.returns-in_default
+returns-in_default c = sym (path_empty c.args.s.now (omega arith))
+
+pub returns-in_default-2 : goal.returns-in_default-2
+returns-in_default-2 c = sym (path-other c.args.s.now (λ e. search rules))
+
+pub returns-in_default-3 : goal.returns-in_default-3
+returns-in_default-3 c = sym (path-other c.args.s.now (λ e. search rules))
