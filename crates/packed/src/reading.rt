@@ -6,14 +6,11 @@ ghost use Rattle.tape.specs.Tapes.{Counted, Here, On, Reads, nth, properties_at,
 
 use crate::region::Region;
 use blob::numbers::be32_at;
+use blob::types::Tag;
 use names::names::find;
 use tape::{Head, Mark, Spot};
 use tree::counts::Counts;
 use tree::numbers::rounded4;
-
-const END: u32 = 2;
-
-const PROPERTY: u32 = 3;
 
 // Memory that is closed or holds its nodes.
 pub struct Packed<'a> {
@@ -43,7 +40,7 @@ impl Packed<'_> {
     {
         let mut at = s.at;
         let mut depth = s.property;
-        while be32_at(self.region.bytes, at) == END {
+        while be32_at(self.region.bytes, at) == Tag::End as u32 {
             at += 4;
             depth -= 1;
         }
@@ -82,7 +79,7 @@ impl Packed<'_> {
     {
         let mut at = from;
         let mut count = 0;
-        while be32_at(self.region.bytes, at) == PROPERTY {
+        while be32_at(self.region.bytes, at) == Tag::Property as u32 {
             let n = be32_at(self.region.bytes, at + 4) as usize;
             at += 12 + rounded4(n);
             count += 1;
