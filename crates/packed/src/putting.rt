@@ -6,6 +6,7 @@ ghost use Rattle.packed.specs.Packing.{token_bytes};
 ghost use Rattle.splices.specs.Splices.{written};
 ghost use Rattle.tree.specs.Numbers.{bytes32, pad4};
 
+use crate::region::STRUCTURE_START;
 use blob::types::Tag;
 use splices::lent::Lent;
 use splices::put;
@@ -84,8 +85,8 @@ pub fn put_sizes(xs: &mut [u8], structure: usize, strings: usize)
     requires { (40 ≤ length xs.old) × (56 + structure + strings ≤ 40960) }
     ensures { Resized xs.old structure strings xs.new }
 {
-    put32(xs, 4, (56 + structure + strings) as u32);
-    put32(xs, 12, (56 + structure) as u32);
+    put32(xs, 4, (STRUCTURE_START + structure + strings) as u32);
+    put32(xs, 12, (STRUCTURE_START + structure) as u32);
     put32(xs, 32, strings as u32);
     put32(xs, 36, structure as u32);
 }
