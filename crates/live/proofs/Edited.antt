@@ -7,11 +7,11 @@ use Rattle.tree.specs.Places.{Bytes}
 use Rattle.tape.specs.Nodes.{Node, valid}
 use Rattle.tape.specs.declared.Mark.{Mark}
 use Rattle.tape.specs.declared.Spot.{Spot}
-use Rattle.tape.specs.Tapes.{Here, nth, properties_at, property_of, bare_node, with_node, less_node, with_properties, less_property, weight_of}
+use Rattle.tape.specs.Tapes.{Here, nth, properties_at, property_of, bare_node, with_node, less_node, with_properties, less_property}
 use Rattle.live.specs.declared.memory.Memory.{Memory}
 use Rattle.live.specs.declared.memory.NodeRecord.{NodeRecord}
 use Rattle.live.specs.declared.memory.PropertyRecord.{PropertyRecord}
-use Rattle.live.specs.Records.{cell_of, property_bytes, row_of, rows_of, cells_of, bytes_of, used_rows, used_cells, used_bytes, held, room_for, spot_in}
+use Rattle.live.specs.Records.{cell_of, property_bytes, row_of, rows_of, bytes_of, used_rows, used_cells, used_bytes, held, room_for, spot_in}
 use Rattle.splices.specs.Splices.{spliced_in, spliced_out, written}
 use Rattle.live.proofs.Fitted.{room-parts, room-from}
 use Rattle.live.proofs.Moved.{renew, rows_more, cells_same, bytes-more, weight-more, rows-less, cells-less, bytes-less, weight-less, rows-over, cells_over, bytes-over, bytes_were, weight-over, take-set-in, rows_other, row_put, cells-put, bytes-put, weight-put, row_cut, cells_cut, bytes_cut, weight-cut, dressed}

@@ -1,6 +1,6 @@
 -- What the memory of the live store keeps. Assumes nothing.
-use Rattle.std.proofs.Common.{◌≡◌, ℕ, ◌+◌, ◌-◌, ◌<◌, ◌≤◌, List, [], ◌∷◌, ◌++◌, map, length, get_or, take, drop, sym, refl, ap, ◌∙◌, subst, append_assoc, arith}
-use Rattle.std.proofs.lemmas.List.{take_at, drop_at, take-take, take_more, drop_more, drop-take, length-append, length-map, length-take-le, get_or-map, get_or-take, take-append-drop, get_or-append-add, get_or_append_left, take-set}
+use Rattle.std.proofs.Common.{◌≡◌, ℕ, ◌+◌, ◌<◌, ◌≤◌, List, [], ◌∷◌, ◌++◌, map, length, get_or, take, drop, sym, refl, ap, ◌∙◌, subst, append_assoc, arith}
+use Rattle.std.proofs.lemmas.List.{take_at, drop_at, take_more, drop_more, length-append, length-map, length-take-le, get_or-map, get_or-take, take-append-drop, get_or-append-add, get_or_append_left, take-set}
 use Rattle.tree.specs.Places.{Bytes}
 use Rattle.tape.specs.Nodes.{Node, Property}
 use Rattle.tape.specs.Tapes.{nowhere, nth, properties_at, property_of, Counted, properties_of, weight_of}

@@ -1,7 +1,6 @@
 -- Records and pool after a splice. Assumes nothing.
 use Rattle.std.proofs.Common.{◌≡◌, ℕ, suc, ◌+◌, ◌-◌, ◌<◌, ◌≤◌, true, List, [], ◌∷◌, ◌++◌, map, length, take, drop, set, sym, refl, ap, ◌∙◌, append_assoc, add-one, arith}
-use borrow.Rule.Slice.PartMut.{put_mid}
-use Rattle.std.proofs.lemmas.List.{take_at, drop_at, take-append-drop, drop_more, drop-drop, length-append, length-map, length-take-le, length-drop, length-set, map-append, map-set, take-map, drop-map, set_split, set-append_left, set-get_or, get_or-map}
+use Rattle.std.proofs.lemmas.List.{take_at, drop_at, take-append-drop, drop-drop, length-append, length-map, length-take-le, length-drop, length-set, map-append, map-set, take-map, drop-map, set_split, set-append_left, set-get_or, get_or-map}
 use Rattle.tree.specs.Places.{Bytes}
 use Rattle.tape.specs.Nodes.{Node, Property, valid}
 use Rattle.tape.specs.Tapes.{nowhere, nth, properties_at, property_of, bare_node, with_node, less_node, with_properties, less_property, weight_of, properties_weight}

@@ -1,12 +1,12 @@
 -- Tokens that stand in the memory from some byte on. Assumes nothing.
-use Rattle.std.proofs.Common.{◌≡◌, ℕ, zero, suc, ◌+◌, ◌-◌, ◌^◌, ◌<◌, ◌≤◌, List, [], ◌∷◌, ◌++◌, length, get_or, take, drop, replicate, sym, refl, ap, ◌∙◌, append_assoc, add-zero, add_assoc, arith, length-append}
-use Rattle.std.proofs.lemmas.List.{get_or-drop, drop_at, drop-drop, take_at, take-append-drop, length-drop}
+use Rattle.std.proofs.Common.{◌≡◌, ℕ, zero, suc, ◌+◌, ◌-◌, ◌^◌, ◌<◌, ◌≤◌, List, [], ◌∷◌, ◌++◌, length, get_or, take, drop, replicate, sym, refl, ap, ◌∙◌, append_assoc, add-zero, add_assoc, arith}
+use Rattle.std.proofs.lemmas.List.{get_or-drop, drop_at, drop-drop, take_at, take-append-drop}
 use Rattle.std.specs.List.{between, AllByRecursion}
 use Rattle.names.specs.Names.{before}
 use Rattle.tree.specs.Numbers.{be32, bytes32, pad4}
 use Rattle.tree.specs.Places.{Bytes}
 use Rattle.blob.specs.Tokens.{Tok, begin, property, end, nop, finish}
-use Rattle.packed.specs.Packing.{token_bytes, token_size, name_size, structure, strings, size_of, names_of, packed}
+use Rattle.packed.specs.Packing.{token_bytes, name_size, structure, strings, size_of, names_of, packed}
 use Rattle.packed.specs.Regions.{memory, Holding, At, IsFull}
 use Rattle.packed.specs.declared.region.Region.{Region}
 use Rattle.packed.proofs.Tokens.{size_is, names-is, structure_join, strings_join, size_join, names_join}

@@ -1,5 +1,5 @@
 -- What is known of the tokens at a spot and at a mark. Assumes nothing.
-use Rattle.std.proofs.Common.{◌≡◌, ℕ, ◌+◌, ◌<◌, ◌≤◌, ◌∷◌, ◌++◌, length, take, drop, ap, ◌∙◌, sym, subst, arith}
+use Rattle.std.proofs.Common.{◌≡◌, ℕ, ◌+◌, ◌<◌, ◌≤◌, length, drop, ap, ◌∙◌, arith}
 use Rattle.std.specs.List.{between}
 use Rattle.names.specs.Names.{before}
 use Rattle.tree.specs.Numbers.{be32, pad4}

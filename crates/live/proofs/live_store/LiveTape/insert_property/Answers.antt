@@ -1,14 +1,10 @@
-use Rattle.std.proofs.Common.{◌≡◌, ◌+◌, ◌≤◌, length, get_or, take, set, refl, ap, ◌∙◌, arith}
-use borrow.Rule.Slice.Mut.{set_vals}
-use Rattle.std.proofs.lemmas.List.{length-set}
+use Rattle.std.proofs.Common.{◌+◌, length, get_or, refl, ap, ◌∙◌, arith}
 use Rattle.live.specs.declared.memory.Memory.{Memory}
-use Rattle.live.specs.declared.memory.NodeRecord.{NodeRecord}
-use Rattle.tape.specs.Tapes.{nth}
-use Rattle.live.specs.Records.{flat_rows, flat_cells, bytes_of, held}
+use Rattle.live.specs.Records.{flat_rows, flat_cells}
 use Rattle.splices.specs.Splices.{spliced_in}
 use Rattle.live.proofs.Edited.{property_inserted}
 use Rattle.live.proofs.Fitted.{property-room}
-use Rattle.live.proofs.Kept.{no_row, at_spot, spot-at, spot-property, spot_row}
+use Rattle.live.proofs.Kept.{no_row, at_spot}
 use Rattle.live.proofs.Whole.{whole}
 use Rattle.live.proofs.live_store.LiveTape.insert_property.Goals as goal
 

@@ -1,14 +1,9 @@
-use Rattle.std.proofs.Common.{◌≡◌, ◌+◌, ◌-◌, ◌≤◌, length, get_or, set, refl, ap, ◌∙◌, arith}
-use borrow.Rule.Slice.Mut.{set_vals}
-use Rattle.std.proofs.lemmas.List.{length-set}
-use Rattle.tape.specs.Tapes.{property_of}
+use Rattle.std.proofs.Common.{◌-◌, refl, ap, ◌∙◌, arith}
 use Rattle.tree.specs.Counting.{property_weight}
 use Rattle.live.specs.declared.memory.Memory.{Memory}
-use Rattle.live.specs.declared.memory.NodeRecord.{NodeRecord}
-use Rattle.live.specs.declared.memory.PropertyRecord.{PropertyRecord}
 use Rattle.live.specs.Records.{flat_rows, flat_cells, held, spot_in}
 use Rattle.live.proofs.Edited.{property_removed}
-use Rattle.live.proofs.Kept.{no_row, no_cell, at_spot, at_mark, on_node, spot_row, spot_stays}
+use Rattle.live.proofs.Kept.{at_spot, at_mark, on_node, spot_stays}
 use Rattle.live.proofs.Moved.{cut-sizes, weight-cut}
 use Rattle.live.proofs.Whole.{whole}
 use Rattle.live.proofs.live_store.LiveTape.remove_property.Goals as goal
