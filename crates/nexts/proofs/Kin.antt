@@ -1,113 +1,73 @@
--- One name more, and the best so far. Assumes nothing.
-use Rattle.std.proofs.Common.{◌≡◌, ℕ, ◌+◌, ◌<◌, ◌≤◌, true, false, cond, eqb, leb, List, [], ◌∷◌, ◌++◌, length, get_or, drop, Some, None, Option, sym, refl, ap, ◌∙◌, subst, inl, inr, ⊎_elim, arith}
-use Rattle.std.proofs.lemmas.List.{at_drop_more, at_drop_all}
-use Rattle.std.proofs.lemmas.Bool.{true≢false, cond-true, cond-false, and_parts, and_cases, cases_Bool, le-leb, lt-leb, eq-eqb, ne_eqb}
+-- The least of some names, one name further, and the names that were gone over. Assumes nothing.
+use Rattle.std.proofs.Common.{◌≡◌, ℕ, ◌+◌, Bool, true, false, cond, ◌&&◌, eqb, leb, List, [], ◌∷◌, ◌++◌, length, map, Some, None, Option, sym, refl, ap, ◌∙◌, inl, inr, ⊎_elim, Bor}
+use Rattle.std.specs.Iterator.{Drains, Yields, YieldsFirstBy}
+use Rattle.std.specs.Cmp.Lexicographic.{lists_agrees, slice_partial_cmp}
+use Rattle.std.specs.Prelude.{IsTrue, MatchOption}
+use Rattle.std.specs.Ordering.{is_lt, is_some_and, nat_cmp}
+use Rattle.std.proofs.lemmas.Bool.{and_left}
 use Rattle.tree.specs.Places.{Bytes}
 use Rattle.store.specs.Calls.{later, least, least_after}
 use Rattle.store.specs.Laws.{Among}
-use Rattle.store.proofs.Nexts.{worse, same-least, later_self, later_trans}
+use Rattle.store.proofs.Nexts.{same-least}
+use Rattle.tape.specs.declared.Spot.{Spot}
+use Rattle.tape.specs.Iters.{children_in, entries, with_name}
 use Rattle.tape.specs.Nodes.{Node, Property}
-use Rattle.tape.specs.Tapes.{nowhere, nth}
-use Rattle.nexts.specs.Kids.{kids, keys, better}
+use Rattle.nexts.specs.Kids.{kids, keys, better, shown_name}
 
-abbrev pub front : Option Bytes → List Bytes
-front None = []
-front (Some k) = k ∷ []
+to_front : (l x : Bytes) (ms : List Bytes) → Among l (ms ++ (x ∷ [])) → Among l (x ∷ ms)
+to_front l x [] a = a
+to_front l x (m ∷ ms) a = ⊎_elim (λ e. inr (inl e)) (λ b. ⊎_elim (λ e. inl e) (λ d. inr (inr d)) (to_front l x ms b)) a
 
--- the best so far is behind n
-abbrev pub Behind : Bytes → Option Bytes → Type 0
-Behind n None = Unit {0}
-Behind n (Some k) = later n k ≡ true
+to_back : (l x : Bytes) (ms : List Bytes) → Among l (x ∷ ms) → Among l (ms ++ (x ∷ []))
+to_back l x [] a = a
+to_back l x (m ∷ ms) a = ⊎_elim (λ e. inr (to_back l x ms (inl e))) (λ b. ⊎_elim (λ e. inl e) (λ d. inr (to_back l x ms (inr d))) b) a
 
-pub least-front : (n : Bytes) (o : Option Bytes) → Behind n o → least_after n (front o ++ []) ≡ o
+-- with a name more, the least is that name where it is better
+pub one-more : (n x : Bytes) (ms : List Bytes) → least_after n (ms ++ (x ∷ [])) ≡ cond (better (least_after n ms) x n) (Some x) (least_after n ms)
 unfolding least_after
-least-front n None b = refl
-least-front n (Some k) b = cond-true (later n k) _ _ b
-
-not-both : (x k : Bytes) → later x k ≡ true → later k x ≡ false
-not-both x k h = ⊎_elim (λ t. absurd (true≢false (sym (later_trans x k x h t) ∙ later_self x))) (λ t. t) (cases_Bool (later k x))
-
-swap : (n x k : Bytes) (ms : List Bytes) → least_after n (k ∷ (x ∷ ms)) ≡ least_after n (x ∷ (k ∷ ms))
-swap n x k ms = same-least n (k ∷ (x ∷ ms)) (x ∷ (k ∷ ms)) (λ l a. go k x l a) (λ l a. go x k l a)
+one-more n x ms = same-least n (ms ++ (x ∷ [])) (x ∷ ms) (λ l. to_front l x ms) (λ l. to_back l x ms) ∙ picks (least_after n ms)
   where
-    go : (p q l : Bytes) → Among l (p ∷ (q ∷ ms)) → Among l (q ∷ (p ∷ ms))
-    go p q l a = ⊎_elim (λ e. inr (inl e)) (λ b. ⊎_elim (λ e. inl e) (λ c. inr (inr c)) b) a
+    both : (a b : Bool) (k : Bytes) → cond a (cond b (Some x) (Some k)) (Some k) ≡ cond (a && b) (Some x) (Some k)
+    both true b k = refl
+    both false b k = refl
 
-pub taken : (n x : Bytes) (o : Option Bytes) (ms : List Bytes) → better o x n ≡ true → (later n x ≡ true) × (least_after n (x ∷ ms) ≡ least_after n (front o ++ (x ∷ ms)))
-taken n x None ms h = (h, refl)
-taken n x (Some k) ms h =
-    let a = and_parts (later n x) (later x k) h in
-    (a.0, sym (worse n k x (x ∷ ms) (inl refl) a.0 (not-both x k a.1)))
+    picks : (o : Option Bytes) → cond (later n x) (least x o) o ≡ cond (better o x n) (Some x) o
+    picks None = refl
+    picks (Some k) = both (later n x) (later x k) k
 
-off : (n x : Bytes) (ms : List Bytes) → later n x ≡ false → least_after n (x ∷ ms) ≡ least_after n ms
-unfolding least_after
-off n x ms h = cond-false (later n x) _ _ h
+-- ---- the names that an iterator gave
 
-under : (n k : Bytes) (xs ys : List Bytes) → least_after n xs ≡ least_after n ys → least_after n (k ∷ xs) ≡ least_after n (k ∷ ys)
-unfolding least_after
-under n k xs ys e = ap (λ o. cond (later n k) (least k o) o) e
+pub gone_over : {S P : Type 0} (rest : S → List (P × Bytes)) (s : S) (xs : List (P × Bor Bytes)) → Drains (YieldsFirstBy with_name rest) s xs → map (λ x. x.1.now) xs ≡ map (λ y. y.1) (rest s)
+gone_over {S = S} {P = P} rest s xs d = go s xs d.1.0 d.1.1 d.1.2.0
+  where
+    go : (a : S) (ys : List (P × Bor Bytes)) (t : S) → Yields (YieldsFirstBy with_name rest) a ys t → rest t ≡ [] → map (λ x. x.1.now) ys ≡ map (λ y. y.1) (rest a)
+    go a [] t y e = ap (map (λ z. z.1)) (sym (ap rest y ∙ e))
+    go a (x ∷ ys) t y e = ap (λ z. x.1.now ∷ z) (go y.0 ys t y.2 e) ∙ ap (map (λ z. z.1)) (sym y.1)
 
-pub kept : (n x : Bytes) (o : Option Bytes) (ms : List Bytes) → Behind n o → better o x n ≡ false → least_after n (front o ++ ms) ≡ least_after n (front o ++ (x ∷ ms))
-kept n x None ms b h = sym (off n x ms h)
-kept n x (Some k) ms b h =
-    ⊎_elim
-    (λ t. sym (under n k (x ∷ ms) ms (off n x ms t)))
-    (λ t. sym (swap n x k ms ∙ worse n x k (k ∷ ms) (inl refl) b t))
-    (and_cases (later n x) (later x k) h)
+pub kids_of : (spot : ℕ → Spot) (m i : ℕ) (ns : List Node) → map (λ x. x.1) (children_in spot m i ns) ≡ kids m ns
+unfolding kids children_in
+kids_of spot m i [] = refl
+kids_of spot m i (n ∷ ns) = go (leb n.depth m) (eqb n.depth (m + 1)) (kids_of spot m (i + 1) ns)
+  where
+    go : (x y : Bool) → map (λ x. x.1) (children_in spot m (i + 1) ns) ≡ kids m ns → map (λ x. x.1) (cond x [] (cond y ((spot i, n.name) ∷ children_in spot m (i + 1) ns) (children_in spot m (i + 1) ns))) ≡ cond x [] (cond y (n.name ∷ kids m ns) (kids m ns))
+    go true y ih = refl
+    go false true ih = ap (λ z. n.name ∷ z) ih
+    go false false ih = ih
 
--- ---- the names of children, one node further
+pub keys_of : {S : Type 0} (mark : ℕ → S) (k : ℕ) (xs : List Property) → map (λ x. x.1) (entries mark k xs) ≡ keys xs
+unfolding keys entries
+keys_of mark k [] = refl
+keys_of mark k (x ∷ xs) = ap (λ z. x.0 ∷ z) (keys_of mark (k + 1) xs)
 
-module _ (ns : List Node) (m i : ℕ) where
-  one : i < length ns → kids m (drop i ns) ≡ cond (leb (nth ns i).depth m) [] (cond (eqb (nth ns i).depth (m + 1)) ((nth ns i).name ∷ kids m (drop (i + 1) ns)) (kids m (drop (i + 1) ns)))
-  unfolding kids
-  one h = at_drop_more (kids m) ns i nowhere h
+-- ---- whether a name is better
 
-  pub kids-end : length ns ≤ i → kids m (drop i ns) ≡ []
-  unfolding kids
-  kids-end h = at_drop_all (kids m) ns i h
+pub before_is : (a b : Bytes) → is_some_and is_lt (slice_partial_cmp (λ x y. Some (nat_cmp x y)) a b) ≡ later a b
+before_is a b = ap (is_some_and is_lt) (lists_agrees (λ x y. refl) a b)
 
-  pub kids-left : i < length ns → (nth ns i).depth ≤ m → kids m (drop i ns) ≡ []
-  kids-left h l = one h ∙ cond-true (leb (nth ns i).depth m) _ _ (le-leb _ _ l)
+pub not_better : (o : Option Bytes) (m n : Bytes) → later n m ≡ false → better o m n ≡ false
+not_better None m n h = h
+not_better (Some k) m n h = and_left (later n m) (later m k) h
 
-  pub kids-child : i < length ns → (nth ns i).depth ≡ m + 1 → kids m (drop i ns) ≡ (nth ns i).name ∷ kids m (drop (i + 1) ns)
-  kids-child h l = one h ∙ cond-false (leb (nth ns i).depth m) _ _ (lt-leb _ _ (omega (arith, l))) ∙ cond-true _ _ _ (eq-eqb _ _ l)
-
-  pub kids-past : i < length ns → m < (nth ns i).depth → ((nth ns i).depth ≡ m + 1 → ⊥) → kids m (drop i ns) ≡ kids m (drop (i + 1) ns)
-  kids-past h l e = one h ∙ cond-false (leb (nth ns i).depth m) _ _ (lt-leb _ _ l) ∙ cond-false _ _ _ (ne_eqb _ _ e)
-
-module _ (xs : List Property) (i : ℕ) where
-  pub keys-end : length xs ≤ i → keys (drop i xs) ≡ []
-  unfolding keys
-  keys-end h = at_drop_all keys xs i h
-
-  pub keys-more : i < length xs → keys (drop i xs) ≡ (get_or xs i ([], [])).0 ∷ keys (drop (i + 1) xs)
-  unfolding keys
-  keys-more h = at_drop_more keys xs i ([], []) h
-
--- ---- one turn: the best so far becomes o', and what is left `rest`
-
-pub Turn : Bytes → Option Bytes → Option Bytes → List Bytes → List Bytes → Type 0
-Turn n o o' here rest = Behind n o' × (least_after n (front o' ++ rest) ≡ least_after n (front o ++ here))
-
-module _ (n : Bytes) (o o' : Option Bytes) (here rest : List Bytes) where
-  pub turn_taken : (x y : Bytes) → y ≡ x → o' ≡ Some y → true ≡ better o y n → here ≡ x ∷ rest → Turn n o o' here rest
-  unfolding Turn
-  turn_taken x y q e h k =
-      let b : better o x n ≡ true = ap (λ z. better o z n) (sym q) ∙ sym h in
-      let t = taken n x o rest b in
-      let e' : o' ≡ Some x = e ∙ ap Some q in
-      (subst (Behind n) (sym e') t.0, ap (λ z. least_after n (front z ++ rest)) e' ∙ t.1 ∙ ap (λ z. least_after n (front o ++ z)) (sym k))
-
-  pub turn_kept : (x y : Bytes) → y ≡ x → o' ≡ o → false ≡ better o y n → here ≡ x ∷ rest → Behind n o → Turn n o o' here rest
-  unfolding Turn
-  turn_kept x y q e h k b =
-      let f : better o x n ≡ false = ap (λ z. better o z n) (sym q) ∙ sym h in
-      (subst (Behind n) (sym e) b, ap (λ z. least_after n (front z ++ rest)) e ∙ kept n x o rest b f ∙ ap (λ z. least_after n (front o ++ z)) (sym k))
-
-  pub turn_past : o' ≡ o → here ≡ rest → Behind n o → Turn n o o' here rest
-  unfolding Turn
-  turn_past e k b = (subst (Behind n) (sym e) b, ap (λ z. least_after n (front z ++ rest)) e ∙ ap (λ z. least_after n (front o ++ z)) (sym k))
-
-  pub turned : Turn n o o' here rest → Behind n o' × (least_after n (front o' ++ rest) ≡ least_after n (front o ++ here))
-  unfolding Turn
-  turned t = t
+pub is_best : (o : Option (Bor Bytes)) (m n : Bytes) (b : Bool) (Q : Bor Bytes → Type 0) → MatchOption o (IsTrue b) Q → ((k : Bor Bytes) → Q k → b ≡ later m k.now) → later n m ≡ true → b ≡ better (shown_name o) m n
+is_best None m n b Q e f h = e ∙ sym h
+is_best (Some k) m n b Q e f h = f k e ∙ ap (λ z. z && later m k.now) (sym h)

@@ -89,8 +89,6 @@ pub trait Store: Readable {
 }
 
 // What the calls' definitions promise, over every tree by the rules.
-pub fn store_laws_stand() -> u8
+pub fn store_laws_stand()
     ensures { StoreLaws }
-{
-    0
-}
+{}

@@ -64,19 +64,13 @@ split-before (b ∷ bs) h = go (eqb b 47) refl h (λ k. split-before bs k)
     go true e l ih = ap (λ x. x ∷ bs) (eqb-true b 47 e)
     go false e l ih = ap (λ t. b ∷ t) (ih (omega arith))
 
--- the name in front of what is left of a path, read as `take (n - 0)`
-module _ (ns : List Node) (sh : shaped ns ≡ true) (ap' : apart (spread [] ns) ≡ true) (spot : ℕ → Spot) (spotted : (i : ℕ) → (spot i).node ≡ i) (at : Spot) (here : Here ns spot at) (rest path : Bytes) (way : stem_at ns at.node ++ (47 ∷ rest) ≡ path) (n : ℕ) (is : n ≡ before 47 rest) (low : n ≤ length rest) (r : Option Spot) (said : r ≡ placed spot (at.node + 1) (child_in (nth ns at.node).depth (take (n - 0) rest) (drop (at.node + 1) ns))) where
+-- the name in front of what is left of a path
+module _ (ns : List Node) (sh : shaped ns ≡ true) (ap' : apart (spread [] ns) ≡ true) (spot : ℕ → Spot) (spotted : (i : ℕ) → (spot i).node ≡ i) (at : Spot) (here : Here ns spot at) (rest path : Bytes) (way : stem_at ns at.node ++ (47 ∷ rest) ≡ path) (n : ℕ) (is : n ≡ before 47 rest) (low : n ≤ length rest) (r : Option Spot) (said : r ≡ placed spot (at.node + 1) (child_in (nth ns at.node).depth (take n rest) (drop (at.node + 1) ns))) where
   name : Bytes
   name = take n rest
 
-  named : take (n - 0) rest ≡ take n rest
-  named = let z : n - 0 ≡ n = omega arith in ap (λ k. take k rest) z
-
   plain-name : plain (take n rest) ≡ true
   plain-name = ap (λ k. plain (take k rest)) is ∙ plain-before rest
-
-  told : r ≡ placed spot (at.node + 1) (child_in (nth ns at.node).depth (take n rest) (drop (at.node + 1) ns))
-  told = said ∙ ap (λ c. placed spot (at.node + 1) (child_in (nth ns at.node).depth c (drop (at.node + 1) ns))) named
 
   placed-none : {S : Type 0} (f : ℕ → S) (i : ℕ) (o : Option ℕ) → placed f i o ≡ None → o ≡ None
   placed-none f i None e = refl
@@ -100,7 +94,7 @@ module _ (ns : List Node) (sh : shaped ns ≡ true) (ap' : apart (spread [] ns) 
 
   pub lost : r ≡ None → Missing path [] ns
   lost e =
-      let m = descend_none ns sh ap' at.node here.inside (take n rest) plain-name (placed-none spot (at.node + 1) _ (sym told ∙ e)) in
+      let m = descend_none ns sh ap' at.node here.inside (take n rest) plain-name (placed-none spot (at.node + 1) _ (sym said ∙ e)) in
       ⊎_elim
       (λ q. subst (λ p. Missing p [] ns) (ap (λ t. stem_at ns at.node ++ (47 ∷ t)) (all-of_it q) ∙ way) m)
       (λ q. subst (λ p. Missing p [] ns) (sym (long (omega (arith, low, q)))) (deeper (stem_at ns at.node ++ (47 ∷ take n rest)) (drop (n + 1) rest) ns sh (omega (arith, height-child (stem_at ns at.node) (take n rest) plain-name)) m))
@@ -108,7 +102,7 @@ module _ (ns : List Node) (sh : shaped ns ≡ true) (ap' : apart (spread [] ns) 
 
   pub stepped : (s : Spot) → r ≡ Some s → Here ns spot s × (stem_at ns s.node ≡ stem_at ns at.node ++ (47 ∷ take n rest))
   stepped s e =
-      let p = placed-some spot (at.node + 1) _ s (sym told ∙ e) in
+      let p = placed-some spot (at.node + 1) _ s (sym said ∙ e) in
       let d = descend_some ns sh ap' at.node here.inside (take n rest) plain-name p.0 p.1 in
       let j : s.node ≡ at.node + 1 + p.0 = ap (λ x. x.node) p.2 ∙ spotted (at.node + 1 + p.0) in
       (record { inside = subst (λ k. k < length ns) (sym j) d.0; is = p.2 ∙ ap spot (sym j) }, ap (stem_at ns) j ∙ d.1)

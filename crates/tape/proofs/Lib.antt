@@ -3,10 +3,11 @@ pub mod Around
 pub mod Becomes
 pub mod Descent
 pub mod Finds
+pub mod Limits
 pub mod Looks
 pub mod Outcomes
 pub mod Sounds
 pub mod Splices
 pub mod Stems
+pub mod Steps
 pub mod Sums
-pub mod Turns

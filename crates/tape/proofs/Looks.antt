@@ -1,5 +1,5 @@
 -- What is there, by where it was found. Assumes nothing.
-use Rattle.std.proofs.Common.{◌≡◌, ℕ, suc, ◌+◌, ◌<◌, Bool, true, false, cond, ◌&&◌, List, [], ◌∷◌, ◌++◌, length, get_or, take, drop, Some, None, Ok, Option, sym, refl, ap, ◌∙◌, subst, ⊎_elim, arith}
+use Rattle.std.proofs.Common.{◌≡◌, ℕ, suc, ◌+◌, ◌<◌, Bool, true, false, cond, ◌&&◌, List, [], ◌∷◌, ◌++◌, length, get_or, take, drop, is_some, Some, None, Ok, Option, sym, refl, ap, ◌∙◌, subst, ⊎_elim, arith}
 use Rattle.std.specs.Str.{bytes_eq}
 use Rattle.std.proofs.lemmas.Slice.Eq.{bytes_eq-Decides}
 use Rattle.std.proofs.lemmas.Bool.{true≢false, cond-true, and_from}
@@ -11,8 +11,9 @@ use Rattle.tree.specs.Trees.{look}
 use Rattle.tree.proofs.Maps.{some-none, some_one}
 use Rattle.store.specs.Calls.{closed, holds, there, has_node, value_at}
 use Rattle.tape.specs.declared.Mark.{Mark}
+use Rattle.tape.specs.declared.Spot.{Spot}
 use Rattle.tape.specs.Nodes.{Node, Property, step, ended, path_of, listed, spread, tree_from, meaning_of, shaped, apart, valid, Missing, further, property_in}
-use Rattle.tape.specs.Tapes.{nth, properties_at, stem_at, On, placed}
+use Rattle.tape.specs.Tapes.{nth, properties_at, stem_at, Entered, Here, Located, On, Owned, placed}
 use Rattle.tape.proofs.Arranged.{seek, seek-none, seek-here, seek-past}
 use Rattle.tape.proofs.Around.{missing_all, node-here, property-look}
 use Rattle.tape.proofs.Descent.{at_index, stem_index, one_byte}
@@ -114,6 +115,23 @@ module _ (boot : ℕ) (ns : List Node) (v : valid boot ns ≡ true) (p : Bytes) 
         let r = property-look (take i ns) (drop (i + 1) ns) (nth ns i) rs ra c in
         (λ k. seek (spread [] (sym (at_index ns i h) k)) (property_at (sym own-path k) c)) ∙ r ∙ (λ k. seek (listed (own-path k) (properties_at ns i)) (property_at (own-path k) c))
 
+pub some-of : {A : Type 0} (o : Option A) → is_some o ≡ true → (x : A) × (o ≡ Some x)
+some-of None e = absurd (true≢false (sym e))
+some-of (Some x) e = (x, refl)
+
+pub none-of : {A : Type 0} (o : Option A) → is_some o ≡ false → o ≡ None
+none-of None e = refl
+none-of (Some x) e = absurd (true≢false e)
+
+-- ---- where a call found its node
+
+module _ {ns : List Node} {spot : ℕ → Spot} {p : Bytes} {b : Bool} {o : Option Spot} (e : Entered ns spot p b o) where
+  pub arrived_at : (s : Spot) → o ≡ Some s → Here ns spot s × (stem_at ns s.node ≡ stem p)
+  arrived_at s q = subst (Located ns spot (stem p)) q e.at
+
+  pub strayed : o ≡ None → Missing (stem p) [] ns
+  strayed q = subst (Located ns spot (stem p)) q e.at
+
 -- ---- answers
 
 pub has-at : (boot : ℕ) (ns : List Node) (p : Bytes) → 0 < length ns → path_text p ≡ true → has_node (meaning_of boot ns) p ≡ Ok (there (tree_from boot ns) (node_at p))
@@ -121,6 +139,10 @@ has-at boot ns p h g = ap (λ m. has_node m p) (open_is boot ns h) ∙ cond-true
 
 pub value-at : (boot : ℕ) (ns : List Node) (p n : Bytes) → 0 < length ns → path_text p ≡ true → property_name n ≡ true → value_at (meaning_of boot ns) p n ≡ Ok (look (tree_from boot ns) (property_at p n))
 value-at boot ns p n h g k = ap (λ m. value_at m p n) (open_is boot ns h) ∙ cond-true (path_text p && property_name n) _ _ (and_from _ _ g k)
+
+pub has-is : (boot : ℕ) (ns : List Node) (v : valid boot ns ≡ true) (spot : ℕ → Spot) (p : Bytes) (b : Bool) (o : Option Spot) → Entered ns spot p b o → is_some o ≡ there (tree_from boot ns) (node_at p)
+has-is boot ns v spot p b None e = ap is_some (sym (look_missing boot ns v p e.path e.at None))
+has-is boot ns v spot p b (Some s) e = ap is_some (sym (look-node boot ns v p e.path s.node e.at.0.inside e.at.1))
 
 -- a mark where a property was found
 module _ (ns : List Node) (mark : ℕ → ℕ → Mark) (numbered : (i k : ℕ) → ((mark i k).node ≡ i) × ((mark i k).number ≡ k)) (i : ℕ) (h : i < length ns) (c : Bytes) (r : Option Mark) (said : r ≡ placed (mark i) 0 (property_in c (properties_at ns i))) where
@@ -142,3 +164,10 @@ module _ (ns : List Node) (mark : ℕ → ℕ → Mark) (numbered : (i k : ℕ) 
 
   pub found_none : r ≡ None → property_in c (properties_at ns i) ≡ None
   found_none e = lost _ (sym said ∙ e)
+
+  pub owned : Owned ns mark i c r
+  owned = go r refl
+    where
+      go : (q : Option Mark) → r ≡ q → Owned ns mark i c q
+      go None e = found_none e
+      go (Some m) e = found-on m e

@@ -1,2 +1,3 @@
+pub mod Iters
 pub mod Nodes
 pub mod Tapes

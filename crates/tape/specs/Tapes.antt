@@ -1,14 +1,16 @@
 -- Spots on a tape of nodes, and what is read there. Assumes nothing.
-use Rattle.std.specs.Prelude.{◌≡◌, ℕ, ◌+◌, ◌<◌, Bool, true, not, ◌&&◌, ◌||◌, List, [], ◌∷◌, ◌++◌, length, take, drop, Some, None, Ok, Err, Option, Result, ◌==◌, nat_le, slice_index_or, slice_set}
+use Rattle.std.specs.Prelude.{◌≡◌, ℕ, ◌+◌, ◌<◌, Bool, true, false, not, ◌&&◌, ◌||◌, ◌⊎◌, List, [], ◌∷◌, ◌++◌, length, take, drop, Some, None, Ok, Err, Option, Result, ◌==◌, nat_le, slice_index_or, slice_set}
 use Rattle.std.specs.Borrow.{Bor}
+use Rattle.names.specs.Paths.{path_text, stem}
 use Rattle.store.specs.declared.Refusal.{Refusal}
+use Rattle.store.specs.declared.Refusal.TheVariants.{BadName, Closed}
 use Rattle.tree.specs.Counting.{node_weight, property_weight}
 use Rattle.tree.specs.Places.{Bytes}
 use Rattle.tree.specs.declared.counts.Counts.{Counts}
 use Rattle.tape.specs.declared.Head.{Head}
 use Rattle.tape.specs.declared.Mark.{Mark}
 use Rattle.tape.specs.declared.Spot.{Spot}
-use Rattle.tape.specs.Nodes.{Node, Property, ended, Missing}
+use Rattle.tape.specs.Nodes.{Node, Property, ended, Missing, property_in}
 
 abbrev pub nowhere : Node
 nowhere = record { depth = 0; name = []; properties = [] }
@@ -54,6 +56,29 @@ placed spot i (Some k) = Some (spot (i + k))
 abbrev pub Located : List Node → (ℕ → Spot) → Bytes → Option Spot → Type 0
 Located ns spot b None = Missing b [] ns
 Located ns spot b (Some s) = Here ns spot s × (stem_at ns s.node ≡ b)
+
+-- a search among the properties of the node at an index: the mark of the one so named, or none where no one is
+abbrev pub Owned : List Node → (ℕ → ℕ → Mark) → ℕ → Bytes → Option Mark → Type 0
+Owned ns mark i c None = property_in c (properties_at ns i) ≡ None
+Owned ns mark i c (Some m) = On ns mark m × (m.node ≡ i) × (property_in c (properties_at ns i) ≡ Some m.number)
+
+-- ---- how a call begins
+
+-- the tape is closed, or a path or another name breaks its rule
+abbrev pub Refused : List Node → Bytes → Bool → Refusal → Type 0
+Refused ns p named e =
+    ((length ns ≡ 0) × (e ≡ Closed)) ⊎ ((0 < length ns) × ((path_text p && named) ≡ false) × (e ≡ BadName))
+
+-- the tape is open, the names are by their rules, and the node at the path was searched for
+pub record Entered (ns : List Node) (spot : ℕ → Spot) (p : Bytes) (b : Bool) (o : Option Spot) : Type 0 where
+  pub opened : 0 < length ns
+  pub path : path_text p ≡ true
+  pub named : b ≡ true
+  pub at : Located ns spot (stem p) o
+
+abbrev pub Opened : List Node → (ℕ → Spot) → Bytes → Bool → Result (Option Spot) Refusal → Type 0
+Opened ns spot p named (Err e) = Refused ns p named e
+Opened ns spot p named (Ok o) = Entered ns spot p named o
 
 -- ---- what nodes count
 

@@ -7,6 +7,7 @@ ghost use Rattle.tape.specs.declared.Spot.{Spot};
 ghost use Rattle.tape.specs.Nodes.{Node, valid};
 ghost use Rattle.tape.specs.Tapes.{Here, On, Reads, Counted, nth, property_of, properties_at, bare_node, with_node, less_node, with_properties, less_property};
 
+pub mod iters;
 pub mod questions;
 pub mod search;
 pub mod writes;

@@ -5,24 +5,14 @@ ghost use Rattle.tape.specs.Nodes.{meaning_of};
 ghost use Rattle.tape.specs.Tapes.{shown};
 
 use crate::Tape;
-use crate::search::{find_node, find_property};
+use crate::search::{find_property, open_node};
 use names::names::is_property_name;
-use names::paths::is_path;
 use store::Refusal;
 
 pub fn has_node<T: Tape>(t: &T, path: &[u8]) -> Result<bool, Refusal>
     ensures { result ≡ has_node (meaning_of (T.Tape.boot t.now) (T.Tape.nodes t.now)) path.now }
 {
-    if t.counts().nodes == 0 {
-        return Err(Refusal::Closed);
-    }
-    if !is_path(path) {
-        return Err(Refusal::BadName);
-    }
-    match find_node(t, path) {
-        None => Ok(false),
-        Some(_) => Ok(true),
-    }
+    Ok(open_node(t, path, true)?.is_some())
 }
 
 pub fn boot_cpu<T: Tape>(t: &T) -> Result<u32, Refusal>
@@ -38,29 +28,19 @@ pub fn boot_cpu<T: Tape>(t: &T) -> Result<u32, Refusal>
 fn find_value<'a, T: Tape>(t: &'a T, path: &[u8], name: &[u8]) -> Result<Option<&'a [u8]>, Refusal>
     ensures { shown result ≡ value_at (meaning_of (T.Tape.boot t.now) (T.Tape.nodes t.now)) path.now name.now }
 {
-    if t.counts().nodes == 0 {
-        return Err(Refusal::Closed);
-    }
-    if !is_path(path) || !is_property_name(name) {
-        return Err(Refusal::BadName);
-    }
-    match find_node(t, path) {
-        None => Ok(None),
-        Some(at) => match find_property(t, at, name) {
-            None => Ok(None),
-            Some(m) => Ok(Some(t.value(m))),
-        },
-    }
+    let Some(at) = open_node(t, path, is_property_name(name))? else {
+        return Ok(None);
+    };
+    let Some(m) = find_property(t, at, name) else {
+        return Ok(None);
+    };
+    Ok(Some(t.value(m)))
 }
 
 pub fn value_len<T: Tape>(t: &T, path: &[u8], name: &[u8]) -> Result<Option<usize>, Refusal>
     ensures { result ≡ length_of (value_at (meaning_of (T.Tape.boot t.now) (T.Tape.nodes t.now)) path.now name.now) }
 {
-    match find_value(t, path, name) {
-        Err(e) => Err(e),
-        Ok(None) => Ok(None),
-        Ok(Some(v)) => Ok(Some(v.len())),
-    }
+    Ok(find_value(t, path, name)?.map(|v| v.len()))
 }
 
 // Copies bytes to the buffer's start.
@@ -68,8 +48,7 @@ pub fn put_front(out: &mut [u8], v: &[u8])
     requires { length v.now ≤ length out.old }
     ensures { out.new ≡ over v.now out.old }
 {
-    let n = v.len();
-    out[0..n].copy_from_slice(v);
+    out[..v.len()].copy_from_slice(v);
 }
 
 pub fn copy_value<T: Tape>(
@@ -81,15 +60,10 @@ pub fn copy_value<T: Tape>(
     ensures answer { result ≡ copied (value_at (meaning_of (T.Tape.boot t.now) (T.Tape.nodes t.now)) path.now name.now) (length out.old) }
     ensures buffer { out.new ≡ filled (value_at (meaning_of (T.Tape.boot t.now) (T.Tape.nodes t.now)) path.now name.now) out.old }
 {
-    match find_value(t, path, name) {
-        Err(e) => Err(e),
-        Ok(None) => Err(Refusal::Absent),
-        Ok(Some(v)) => {
-            if v.len() > out.len() {
-                return Err(Refusal::Short);
-            }
-            put_front(out, v);
-            Ok(v.len())
-        }
+    let v = find_value(t, path, name)?.ok_or(Refusal::Absent)?;
+    if v.len() > out.len() {
+        return Err(Refusal::Short);
     }
+    put_front(out, v);
+    Ok(v.len())
 }

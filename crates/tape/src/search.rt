@@ -2,47 +2,33 @@
 ghost use Rattle.std.specs.Prelude.{◌≡◌, ◌+◌, ◌<◌, true, length, drop};
 ghost use Rattle.names.specs.Paths.{path_text, stem};
 ghost use Rattle.tape.specs.Nodes.{child_in, property_in};
-ghost use Rattle.tape.specs.Tapes.{Here, Located, nth, placed, properties_at};
+ghost use Rattle.tape.specs.Tapes.{Here, Located, Opened, Owned, nth, placed, properties_at};
 
+use crate::iters::{children_of, properties_of};
 use crate::{Mark, Spot, Tape};
-use names::names::{find, same_bytes};
-use names::paths::SLASH;
+use names::names::find;
+use names::paths::{SLASH, is_path};
+use store::Refusal;
 
 // The child so named of the node at `from`.
 fn find_child<T: Tape>(t: &T, from: Spot, name: &[u8]) -> Option<Spot>
     requires { Here (T.Tape.nodes t.now) (T.Tape.spot t.now) from }
     ensures { result ≡ placed (T.Tape.spot t.now) (from.node + 1) (child_in (nth (T.Tape.nodes t.now) from.node).depth name.now (drop (from.node + 1) (T.Tape.nodes t.now))) }
 {
-    let top = t.head(from);
-    let count = t.counts().nodes;
-    let mut at = top.next;
-    while at.node < count {
-        let head = t.head(at);
-        if head.depth <= top.depth {
-            return None;
-        }
-        if head.depth - top.depth == 1 && same_bytes(t.name(at), name) {
-            return Some(at);
-        }
-        at = head.next;
-    }
-    None
+    children_of(t, from)
+        .find(|(_, child)| *child == name)
+        .map(|(at, _)| at)
 }
 
 // The property so named of the node at `at`.
 pub fn find_property<T: Tape>(t: &T, at: Spot, name: &[u8]) -> Option<Mark>
     requires { Here (T.Tape.nodes t.now) (T.Tape.spot t.now) at }
-    ensures { result ≡ placed (T.Tape.mark t.now at.node) 0 (property_in name.now (properties_at (T.Tape.nodes t.now) at.node)) }
+    ensures value { result ≡ placed (T.Tape.mark t.now at.node) 0 (property_in name.now (properties_at (T.Tape.nodes t.now) at.node)) }
+    ensures owned { Owned (T.Tape.nodes t.now) (T.Tape.mark t.now) at.node name.now result }
 {
-    let head = t.head(at);
-    let mut m = head.first;
-    while m.number < head.properties {
-        if same_bytes(t.property_name(m), name) {
-            return Some(m);
-        }
-        m = t.behind(m);
-    }
-    None
+    properties_of(t, at)
+        .find(|(_, property)| *property == name)
+        .map(|(m, _)| m)
 }
 
 // The node at a path.
@@ -58,13 +44,26 @@ pub fn find_node<T: Tape>(t: &T, path: &[u8]) -> Option<Spot>
     let mut rest = &path[1..];
     loop {
         let n = find(rest, SLASH);
-        match find_child(t, at, &rest[0..n]) {
-            None => return None,
-            Some(s) => at = s,
-        }
+        let Some(s) = find_child(t, at, &rest[..n]) else {
+            return None;
+        };
+        at = s;
         if n == rest.len() {
             return Some(at);
         }
         rest = &rest[n + 1..];
     }
+}
+
+// The node at a path of an open tape. `named` says whether the other name of the call is by its rule.
+pub fn open_node<T: Tape>(t: &T, path: &[u8], named: bool) -> Result<Option<Spot>, Refusal>
+    ensures { Opened (T.Tape.nodes t.now) (T.Tape.spot t.now) path.now named result }
+{
+    if t.counts().nodes == 0 {
+        return Err(Refusal::Closed);
+    }
+    if !is_path(path) || !named {
+        return Err(Refusal::BadName);
+    }
+    Ok(find_node(t, path))
 }

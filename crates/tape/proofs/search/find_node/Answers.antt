@@ -26,11 +26,11 @@ loop-s-init g c =
     let i = ap (λ s. s.node) c.start-at.ensures ∙ g.T.Tape.spotted t 0 in
     (record { inside = omega (arith, i, c.requires.opened); is = c.start-at.ensures ∙ ap (g.T.Tape.spot t) (sym i) }, ap (λ s. s ++ (47 ∷ take (length c.args.path.now - 1) (drop 1 c.args.path.now))) (ap (stem_at (g.T.Tape.nodes t)) i ∙ root-stem (g.T.Tape.nodes t) v.shape c.requires.opened) ∙ ap (λ s. 47 ∷ s) (take_rest c.args.path.now 1) ∙ first-slash c.args.path.now c.requires.path)
 
-pub returns-in-None : goal.returns-in-None
-returns-in-None g c =
+pub returns-in_default : goal.returns-in_default
+returns-in_default g c =
     let t = c.args.t.now in
     let v = parts (g.T.Tape.boot t) (g.T.Tape.nodes t) (g.T.Tape.sound t) in
-    let m = lost (g.T.Tape.nodes t) v.shape v.once (g.T.Tape.spot t) (g.T.Tape.spotted t) c.loop-s.at c.loop-s.invariant.0 c.loop-s.rest.now c.args.path.now c.loop-s.invariant.1 c.find-n.result c.find-n.ensures.value c.find-n.ensures.within c.find_child.result c.find_child.ensures c.in-None.is in
+    let m = lost (g.T.Tape.nodes t) v.shape v.once (g.T.Tape.spot t) (g.T.Tape.spotted t) c.loop-s.at c.loop-s.invariant.0 c.loop-s.rest.now c.args.path.now c.loop-s.invariant.1 c.find-n.result c.find-n.ensures.value c.find-n.ensures.within c.find_child.result c.find_child.ensures c.in_default.is in
     subst (λ p. Missing p [] (g.T.Tape.nodes t)) (sym (not_root c.args.path.now c.if-path-eq1.false)) m
 
 pub returns-then-n-rest : goal.returns-then-n-rest
