@@ -1,18 +1,21 @@
 -- Memory after an edit. Assumes nothing.
-use Rattle.std.proofs.Common.{◌≡◌, ℕ, ◌+◌, ◌-◌, ◌<◌, ◌≤◌, true, List, [], ◌∷◌, ◌++◌, length, take, drop, set, sym, refl, ap, ◌∙◌, append_assoc, arith}
+use Rattle.std.proofs.Common.{◌≡◌, ℕ, ◌+◌, ◌-◌, ◌<◌, ◌≤◌, true, List, [], ◌∷◌, ◌++◌, length, get_or, take, drop, set, sym, refl, ap, ◌∙◌, append_assoc, arith}
+use borrow.Rule.Slice.Mut.{set_vals}
 use Rattle.std.proofs.lemmas.List.{nil_from_length, length-append, take_at, drop_at, length-set}
 use Rattle.tree.specs.Counting.{node_weight, property_weight}
 use Rattle.tree.specs.Places.{Bytes}
 use Rattle.tape.specs.Nodes.{Node, valid}
-use Rattle.tape.specs.Tapes.{nth, properties_at, property_of, bare_node, with_node, less_node, with_properties, less_property, weight_of}
+use Rattle.tape.specs.declared.Mark.{Mark}
+use Rattle.tape.specs.declared.Spot.{Spot}
+use Rattle.tape.specs.Tapes.{Here, nth, properties_at, property_of, bare_node, with_node, less_node, with_properties, less_property}
 use Rattle.live.specs.declared.memory.Memory.{Memory}
 use Rattle.live.specs.declared.memory.NodeRecord.{NodeRecord}
 use Rattle.live.specs.declared.memory.PropertyRecord.{PropertyRecord}
-use Rattle.live.specs.Records.{cell_of, property_bytes, row_of, rows_of, cells_of, bytes_of, used_rows, used_cells, used_bytes, held, room_for}
+use Rattle.live.specs.Records.{cell_of, property_bytes, row_of, rows_of, bytes_of, used_rows, used_cells, used_bytes, held, room_for, spot_in}
 use Rattle.splices.specs.Splices.{spliced_in, spliced_out, written}
 use Rattle.live.proofs.Fitted.{room-parts, room-from}
 use Rattle.live.proofs.Moved.{renew, rows_more, cells_same, bytes-more, weight-more, rows-less, cells-less, bytes-less, weight-less, rows-over, cells_over, bytes-over, bytes_were, weight-over, take-set-in, rows_other, row_put, cells-put, bytes-put, weight-put, row_cut, cells_cut, bytes_cut, weight-cut, dressed}
-use Rattle.live.proofs.Kept.{count-is}
+use Rattle.live.proofs.Kept.{no_row, no_cell, count-is, spot_row, spot-at, spot-property, OnNode}
 use Rattle.live.proofs.Whole.{Whole, Renewed}
 
 -- bytes written over others
@@ -22,8 +25,18 @@ written-over all X Y Z u at e a b =
     (λ j. take at (e j) ++ (u ++ drop (at + length u) (e j)))
     ∙ (λ j. take_at X (Y ++ Z) at (sym a) j ++ (u ++ (ap (drop (at + length u)) (sym (append_assoc X Y Z)) ∙ drop_at (X ++ Y) Z (at + length u) (sym z)) j))
 
-add-assoc-one : (a b c : ℕ) → a + b + c ≡ a + (b + c)
-add-assoc-one a b c = omega arith
+pub row-within : (m : Memory) (i : ℕ) (r : NodeRecord) → m.nodes.used ≤ length (set m.nodes.items.now i r)
+row-within m i r = omega (arith, m.nodes.within, length-set m.nodes.items.now i r)
+
+-- with another record at an index
+abbrev pub with_row : Memory → ℕ → NodeRecord → Memory
+with_row m i r = record {
+  nodes = record { items = set_vals (set m.nodes.items.now i r) m.nodes.items; used = m.nodes.used; within = row-within m i r };
+  properties = m.properties;
+  pool = m.pool;
+  weight = m.weight;
+  boot = m.boot;
+}
 
 -- of the same size as before, and that was in use
 module _ (m x : Memory) (w : Whole m) (some : 0 < length (held m)) where
@@ -81,52 +94,75 @@ module _ (m x : Memory) (w : Whole m) (some : 0 < length (held m)) where
       (bytes ∙ written-over (used_bytes m) X y.1 Z u at (sym w.bytes ∙ bytes_were ns i h q l u same) k same ∙ sym (bytes-over ns i h q l u same))
       m.boot boot (weight ∙ w.weight ∙ sym (weight-over ns i h q l u same)) (room-kept a b c) v
 
-  pub property_inserted : (i : ℕ) (name value : Bytes) (number at : ℕ) (r : NodeRecord) → (h : i < length (held m))
-      → r ≡ row_of (nth (held m) i) → number ≡ length (cells_of (take i (held m))) → at ≡ length (bytes_of (take i (held m))) + length (nth (held m) i).name
-      → used_rows x ≡ take m.nodes.used (set m.nodes.items.now i (record { depth = r.depth; name = r.name; properties = r.properties + 1; bytes = r.bytes + (length name + length value) }))
-      → used_cells x ≡ spliced_in (used_cells m) number (cell_of (name, value) ∷ [])
-      → used_bytes x ≡ spliced_in (spliced_in (used_bytes m) at name) (at + length name) value
-      → length x.nodes.items.now ≡ length m.nodes.items.now → length x.properties.items.now ≡ length m.properties.items.now → length x.pool.items.now ≡ length m.pool.items.now
-      → x.weight ≡ m.weight + property_weight (length name) (length value) → x.boot ≡ m.boot
-      → valid m.boot (with_properties (held m) i ((name, value) ∷ properties_at (held m) i)) ≡ true
-      → Renewed x (with_properties (held m) i ((name, value) ∷ properties_at (held m) i)) m.boot
-  property_inserted i name value number at r h row en ea rows cells bytes a b c weight boot v =
-      let ns = held m in
-      let ps = properties_at ns i in
-      let low : i < m.nodes.used = omega (arith, h, count-is m w) in
-      let to : NodeRecord → NodeRecord = λ t. record { depth = t.depth; name = t.name; properties = t.properties + 1; bytes = t.bytes + (length name + length value) } in
-      let same : to (row_of (nth ns i)) ≡ row_of (dressed ns i h ((name, value) ∷ ps)) =
-      sym (row_put ns i h name value ∙ (λ j. record { depth = (nth ns i).depth; name = length (nth ns i).name; properties = length ps + 1; bytes = add-assoc-one (length (property_bytes ps)) (length name) (length value) j })) in
-      let ob = sym w.rows in
-      let oc = sym w.cells in
-      let back = sym w.bytes in
-      renew x (with_properties ns i ((name, value) ∷ ps))
-      (rows ∙ take-set-in m.nodes.used i m.nodes.items.now (to r) low m.nodes.within ∙ (λ j. set (ob j) i (to (row j))) ∙ ap (set (rows_of ns) i) same ∙ sym (rows_other ns i h ((name, value) ∷ ps)))
-      (cells ∙ (λ j. spliced_in (oc j) (en j) (cell_of (name, value) ∷ [])) ∙ cells-put ns i h name value)
-      (bytes ∙ (λ j. spliced_in (spliced_in (back j) (ea j) name) (ea j + length name) value) ∙ bytes-put ns i h name value)
-      m.boot boot (omega (arith, weight, w.weight, weight-put ns i h name value)) (room-kept a b c) v
+-- a property more or less, where x is the memory before the node's record is written
+module _ (m x : Memory) (w : Whole m) (s : Spot) (h : Here (held m) (spot_in (held m)) s) (same : x.nodes.used ≡ m.nodes.used) (rows : used_rows x ≡ used_rows m) (a : length x.nodes.items.now ≡ length m.nodes.items.now) where
+  abbrev ns : List Node
+  ns = held m
 
-  pub property_removed : (i q : ℕ) (number at n : ℕ) (r : NodeRecord) → (h : i < length (held m)) → (l : q < length (properties_at (held m) i))
-      → r ≡ row_of (nth (held m) i) → number ≡ length (cells_of (take i (held m))) + q
-      → at ≡ length (bytes_of (take i (held m))) + length (nth (held m) i).name + length (property_bytes (take q (properties_at (held m) i)))
-      → n ≡ length (property_of (held m) i q).0 + length (property_of (held m) i q).1
-      → used_rows x ≡ take m.nodes.used (set m.nodes.items.now i (record { depth = r.depth; name = r.name; properties = r.properties - 1; bytes = r.bytes - n }))
-      → used_cells x ≡ spliced_out (used_cells m) number 1 → used_bytes x ≡ spliced_out (used_bytes m) at n
-      → length x.nodes.items.now ≡ length m.nodes.items.now → length x.properties.items.now ≡ length m.properties.items.now → length x.pool.items.now ≡ length m.pool.items.now
-      → x.weight ≡ m.weight - property_weight (length (property_of (held m) i q).0) (length (property_of (held m) i q).1) → x.boot ≡ m.boot
-      → valid m.boot (with_properties (held m) i (less_property (properties_at (held m) i) q)) ≡ true
-      → Renewed x (with_properties (held m) i (less_property (properties_at (held m) i) q)) m.boot
-  property_removed i q number at n r h l row en ea es rows cells bytes a b c weight boot v =
-      let ns = held m in
+  abbrev old : NodeRecord
+  old = get_or m.nodes.items.now s.node no_row
+
+  rows-set : (to : NodeRecord → NodeRecord) → used_rows (with_row x s.node (to old)) ≡ set (rows_of ns) s.node (to (row_of (nth ns s.node)))
+  rows-set to =
+      let low : s.node < x.nodes.used = omega (arith, h.inside, count-is m w, same) in
+      let ob = rows ∙ sym w.rows in
+      let row = spot_row m w s h in
+      take-set-in x.nodes.used s.node x.nodes.items.now (to old) low x.nodes.within ∙ (λ j. set (ob j) s.node (to (row j)))
+
+  size : (to : NodeRecord → NodeRecord) → length (set x.nodes.items.now s.node (to old)) ≡ length m.nodes.items.now
+  size to = length-set x.nodes.items.now s.node (to old) ∙ a
+
+  some : 0 < length (held m)
+  some = omega (arith, h.inside)
+
+  pub property_inserted : (name value : Bytes) → used_cells x ≡ spliced_in (used_cells m) s.property (cell_of (name, value) ∷ [])
+      → used_bytes x ≡ spliced_in (spliced_in (used_bytes m) (s.at + old.name) name) (s.at + old.name + length name) value
+      → length x.properties.items.now ≡ length m.properties.items.now → length x.pool.items.now ≡ length m.pool.items.now
+      → x.weight ≡ m.weight + property_weight (length name) (length value) → x.boot ≡ m.boot
+      → valid m.boot (with_properties ns s.node ((name, value) ∷ properties_at ns s.node)) ≡ true
+      → Renewed (with_row x s.node (record { depth = old.depth; name = old.name; properties = old.properties + 1; bytes = old.bytes + (length name + length value) })) (with_properties ns s.node ((name, value) ∷ properties_at ns s.node)) m.boot
+  property_inserted name value cells bytes b c weight boot v =
+      let i = s.node in
       let ps = properties_at ns i in
-      let low : i < m.nodes.used = omega (arith, h, count-is m w) in
-      let to : NodeRecord → NodeRecord = λ t. record { depth = t.depth; name = t.name; properties = t.properties - 1; bytes = t.bytes - n } in
-      let less : length (property_bytes ps) - n ≡ length (property_bytes ps) - (length (property_of ns i q).0 + length (property_of ns i q).1) = ap (λ k. length (property_bytes ps) - k) es in
-      let ob = sym w.rows in
+      let to : NodeRecord → NodeRecord = λ t. record { depth = t.depth; name = t.name; properties = t.properties + 1; bytes = t.bytes + (length name + length value) } in
+      let long : length (property_bytes ps) + length name + length value ≡ length (property_bytes ps) + (length name + length value) = omega arith in
+      let made : row_of (dressed ns i h.inside ((name, value) ∷ ps)) ≡ to (row_of (nth ns i)) =
+      row_put ns i h.inside name value ∙ (λ j. record { depth = (nth ns i).depth; name = length (nth ns i).name; properties = length ps + 1; bytes = long j }) in
       let oc = sym w.cells in
       let back = sym w.bytes in
-      renew x (with_properties ns i (less_property ps q))
-      (rows ∙ take-set-in m.nodes.used i m.nodes.items.now (to r) low m.nodes.within ∙ (λ j. set (ob j) i (to (row j))) ∙ ap (set (rows_of ns) i) (sym (row_cut ns i h q l (length ps - 1) (length (property_bytes ps) - n) refl less)) ∙ sym (rows_other ns i h (less_property ps q)))
-      (cells ∙ (λ j. spliced_out (oc j) (en j) 1) ∙ cells_cut ns i h q l)
-      (bytes ∙ (λ j. spliced_out (back j) at n) ∙ bytes_cut ns i h q l at n ea es)
-      m.boot boot (omega (arith, weight, w.weight, weight-cut ns i h q l)) (room-kept a b c) v
+      let en = spot-property m w s h in
+      let row = spot_row m w s h in
+      let ea : s.at + old.name ≡ length (bytes_of (take i ns)) + length (nth ns i).name = λ j. spot-at m w s h j + (row j).name in
+      renew (with_row x i (to old)) (with_properties ns i ((name, value) ∷ ps))
+      (rows-set to ∙ ap (set (rows_of ns) i) (sym made) ∙ sym (rows_other ns i h.inside ((name, value) ∷ ps)))
+      (cells ∙ (λ j. spliced_in (oc j) (en j) (cell_of (name, value) ∷ [])) ∙ cells-put ns i h.inside name value)
+      (bytes ∙ (λ j. spliced_in (spliced_in (back j) (ea j) name) (ea j + length name) value) ∙ bytes-put ns i h.inside name value)
+      m.boot boot (omega (arith, weight, w.weight, weight-put ns i h.inside name value)) (room-kept m (with_row x i (to old)) w some (size to) b c) v
+
+  module _ (k : Mark) (on : OnNode m s.node k) where
+    abbrev cell : PropertyRecord
+    cell = get_or m.properties.items.now k.property no_cell
+
+    pub property_removed : used_cells x ≡ spliced_out (used_cells m) k.property 1 → used_bytes x ≡ spliced_out (used_bytes m) k.at (cell.name + cell.value)
+        → length x.properties.items.now ≡ length m.properties.items.now → length x.pool.items.now ≡ length m.pool.items.now
+        → x.weight ≡ m.weight - property_weight cell.name cell.value → x.boot ≡ m.boot
+        → valid m.boot (with_properties ns s.node (less_property (properties_at ns s.node) k.number)) ≡ true
+        → Renewed (with_row x s.node (record { depth = old.depth; name = old.name; properties = old.properties - 1; bytes = old.bytes - (cell.name + cell.value) })) (with_properties ns s.node (less_property (properties_at ns s.node) k.number)) m.boot
+    property_removed cells bytes b c weight boot v =
+        let i = s.node in
+        let q = k.number in
+        let l = on.within in
+        let ps = properties_at ns i in
+        let n = cell.name + cell.value in
+        let es : n ≡ length (property_of ns i q).0 + length (property_of ns i q).1 = λ j. on.name j + on.value j in
+        let to : NodeRecord → NodeRecord = λ t. record { depth = t.depth; name = t.name; properties = t.properties - 1; bytes = t.bytes - n } in
+        let less : length (property_bytes ps) - n ≡ length (property_bytes ps) - (length (property_of ns i q).0 + length (property_of ns i q).1) = ap (λ z. length (property_bytes ps) - z) es in
+        let made = row_cut ns i h.inside q l (length ps - 1) (length (property_bytes ps) - n) refl less in
+        let oc = sym w.cells in
+        let back = sym w.bytes in
+        let heavy = weight ∙ (λ j. m.weight - property_weight (on.name j) (on.value j)) in
+        renew (with_row x i (to old)) (with_properties ns i (less_property ps q))
+        (rows-set to ∙ ap (set (rows_of ns) i) (sym made) ∙ sym (rows_other ns i h.inside (less_property ps q)))
+        (cells ∙ (λ j. spliced_out (oc j) (on.property j) 1) ∙ cells_cut ns i h.inside q l)
+        (bytes ∙ (λ j. spliced_out (back j) k.at n) ∙ bytes_cut ns i h.inside q l k.at n on.at es)
+        m.boot boot (omega (arith, heavy, w.weight, weight-cut ns i h.inside q l)) (room-kept m (with_row x i (to old)) w some (size to) b c) v

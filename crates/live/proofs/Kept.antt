@@ -1,6 +1,6 @@
 -- What the memory of the live store keeps. Assumes nothing.
-use Rattle.std.proofs.Common.{◌≡◌, ℕ, ◌+◌, ◌-◌, ◌<◌, ◌≤◌, List, [], ◌∷◌, ◌++◌, map, length, get_or, take, drop, sym, refl, ap, ◌∙◌, subst, append_assoc, arith}
-use Rattle.std.proofs.lemmas.List.{take_at, drop_at, take-take, take_more, drop_more, drop-take, length-append, length-map, length-take-le, get_or-map, get_or-take, take-append-drop, get_or-append-add, get_or_append_left, take-set}
+use Rattle.std.proofs.Common.{◌≡◌, ℕ, ◌+◌, ◌<◌, ◌≤◌, List, [], ◌∷◌, ◌++◌, map, length, get_or, take, drop, sym, refl, ap, ◌∙◌, subst, append_assoc, arith}
+use Rattle.std.proofs.lemmas.List.{take_at, drop_at, take_more, drop_more, length-append, length-map, length-take-le, get_or-map, get_or-take, take-append-drop, get_or-append-add, get_or_append_left, take-set}
 use Rattle.tree.specs.Places.{Bytes}
 use Rattle.tape.specs.Nodes.{Node, Property}
 use Rattle.tape.specs.Tapes.{nowhere, nth, properties_at, property_of, Counted, properties_of, weight_of}
@@ -17,7 +17,7 @@ use Rattle.live.proofs.Coded.{bytes_join, cells_join, property-bytes_join}
 
 -- ---- a list of nodes around one of them
 
-at_index : (ns : List Node) (i : ℕ) → i < length ns → ns ≡ take i ns ++ (nth ns i ∷ drop (i + 1) ns)
+pub at_index : (ns : List Node) (i : ℕ) → i < length ns → ns ≡ take i ns ++ (nth ns i ∷ drop (i + 1) ns)
 at_index ns i h = sym (take-append-drop i ns) ∙ ap (λ t. take i ns ++ t) (drop_more ns i nowhere h)
 
 module _ (ns : List Node) (i : ℕ) (h : i < length ns) where
@@ -48,7 +48,7 @@ module _ (ns : List Node) (i : ℕ) (h : i < length ns) where
     abbrev x : Property
     x = property_of ns i k
 
-    cut_up : properties_at ns i ≡ take k (properties_at ns i) ++ (x ∷ drop (k + 1) (properties_at ns i))
+    pub cut_up : properties_at ns i ≡ take k (properties_at ns i) ++ (x ∷ drop (k + 1) (properties_at ns i))
     cut_up = sym (take-append-drop k (properties_at ns i)) ∙ ap (λ t. take k (properties_at ns i) ++ t) (drop_more (properties_at ns i) k ([], []) l)
 
     -- the pool around a property's name and value

@@ -1,7 +1,6 @@
 -- Records and pool after a splice. Assumes nothing.
 use Rattle.std.proofs.Common.{◌≡◌, ℕ, suc, ◌+◌, ◌-◌, ◌<◌, ◌≤◌, true, List, [], ◌∷◌, ◌++◌, map, length, take, drop, set, sym, refl, ap, ◌∙◌, append_assoc, add-one, arith}
-use borrow.Rule.Slice.PartMut.{put_mid}
-use Rattle.std.proofs.lemmas.List.{take_at, drop_at, take-append-drop, drop_more, drop-drop, length-append, length-map, length-take-le, length-drop, length-set, map-append, map-set, take-map, drop-map, set_split, set-append_left, set-get_or, get_or-map}
+use Rattle.std.proofs.lemmas.List.{take_at, drop_at, take-append-drop, drop-drop, length-append, length-map, length-take-le, length-drop, length-set, map-append, map-set, take-map, drop-map, set_split, set-append_left, set-get_or, get_or-map}
 use Rattle.tree.specs.Places.{Bytes}
 use Rattle.tape.specs.Nodes.{Node, Property, valid}
 use Rattle.tape.specs.Tapes.{nowhere, nth, properties_at, property_of, bare_node, with_node, less_node, with_properties, less_property, weight_of, properties_weight}
@@ -11,7 +10,7 @@ use Rattle.live.specs.Records.{cell_of, property_bytes, row_of, rows_of, cells_o
 use Rattle.live.proofs.Whole.{Renewed}
 use Rattle.splices.specs.Splices.{spliced_in, spliced_out}
 use Rattle.live.proofs.Coded.{nodes_coded, bytes_join, cells_join, property-bytes_join}
-use Rattle.live.proofs.Kept.{bytes-at, cells_at_lem, bytes_on}
+use Rattle.live.proofs.Kept.{at_index, cut_up, bytes-at, cells_at_lem, bytes_on}
 
 -- ---- memory that spells a list
 
@@ -66,9 +65,6 @@ properties-weight_join : (xs ys : List Property) → properties_weight (xs ++ ys
 unfolding properties_weight
 properties-weight_join [] ys = omega arith
 properties-weight_join (x ∷ xs) ys = omega (arith, properties-weight_join xs ys)
-
-at_index : (ns : List Node) (i : ℕ) → i < length ns → ns ≡ take i ns ++ (nth ns i ∷ drop (i + 1) ns)
-at_index ns i h = sym (take-append-drop i ns) ∙ ap (λ t. take i ns ++ t) (drop_more ns i nowhere h)
 
 -- ---- a node more
 
@@ -184,14 +180,11 @@ module _ (ns : List Node) (i : ℕ) (h : i < length ns) where
     abbrev less : List Node
     less = with_properties ns i (less_property ps k)
 
-    cut_up : ps ≡ take k ps ++ (x ∷ drop (k + 1) ps)
-    cut_up = sym (take-append-drop k ps) ∙ ap (λ t. take k ps ++ t) (drop_more ps k ([], []) l)
-
     pub cells_cut : spliced_out (cells_of ns) (length (cells_of (take i ns)) + k) 1 ≡ cells_of less
     cells_cut =
         let a = cells_of (take i ns) ++ map cell_of (take k ps) in
         let b = map cell_of (drop (k + 1) ps) ++ cells_of (drop (i + 1) ns) in
-        let e : cells_of ns ≡ a ++ ((cell_of x ∷ []) ++ b) = cells_at_lem ns i h ∙ ap (λ t. cells_of (take i ns) ++ (t ++ cells_of (drop (i + 1) ns))) (ap (map cell_of) cut_up ∙ map-append cell_of (take k ps) (x ∷ drop (k + 1) ps)) ∙ simp append_assoc in
+        let e : cells_of ns ≡ a ++ ((cell_of x ∷ []) ++ b) = cells_at_lem ns i h ∙ ap (λ t. cells_of (take i ns) ++ (t ++ cells_of (drop (i + 1) ns))) (ap (map cell_of) (cut_up ns i h k l) ∙ map-append cell_of (take k ps) (x ∷ drop (k + 1) ps)) ∙ simp append_assoc in
         let la : length (cells_of (take i ns)) + k ≡ length a = omega (arith, length-append (cells_of (take i ns)) (map cell_of (take k ps)), length-map (take k ps) cell_of, length-take-le k ps (omega (arith, l))) in
         split-out a (cell_of x ∷ []) b (cells_of ns) _ 1 e la refl
         ∙ regroup (cells_of (take i ns)) (map cell_of (take k ps)) (map cell_of (drop (k + 1) ps)) (cells_of (drop (i + 1) ns))
@@ -210,7 +203,7 @@ module _ (ns : List Node) (i : ℕ) (h : i < length ns) where
     bytes-parts : length (property_bytes ps) ≡ length (property_bytes (less_property ps k)) + length x.0 + length x.1
     unfolding property_bytes
     bytes-parts =
-        omega (arith, ap (λ t. length (property_bytes t)) cut_up, ap length (property-bytes_join (take k ps) (x ∷ drop (k + 1) ps)), ap length (property-bytes_join (take k ps) (drop (k + 1) ps)), length-append (property_bytes (take k ps)) (property_bytes (x ∷ drop (k + 1) ps)), length-append (property_bytes (take k ps)) (property_bytes (drop (k + 1) ps)), length-append x.0 (x.1 ++ property_bytes (drop (k + 1) ps)), length-append x.1 (property_bytes (drop (k + 1) ps)))
+        omega (arith, ap (λ t. length (property_bytes t)) (cut_up ns i h k l), ap length (property-bytes_join (take k ps) (x ∷ drop (k + 1) ps)), ap length (property-bytes_join (take k ps) (drop (k + 1) ps)), length-append (property_bytes (take k ps)) (property_bytes (x ∷ drop (k + 1) ps)), length-append (property_bytes (take k ps)) (property_bytes (drop (k + 1) ps)), length-append x.0 (x.1 ++ property_bytes (drop (k + 1) ps)), length-append x.1 (property_bytes (drop (k + 1) ps)))
 
     count-parts : length ps ≡ length (less_property ps k) + 1
     count-parts = omega (arith, length-append (take k ps) (drop (k + 1) ps), length-take-le k ps (omega (arith, l)), length-drop (k + 1) ps, l)
@@ -227,7 +220,7 @@ module _ (ns : List Node) (i : ℕ) (h : i < length ns) where
     pub weight-cut : weight_of ns ≡ weight_of less + property_weight (length x.0) (length x.1)
     unfolding properties_weight
     weight-cut =
-        omega (arith, weight-other ns i h (less_property ps k), ap properties_weight cut_up, properties-weight_join (take k ps) (x ∷ drop (k + 1) ps), properties-weight_join (take k ps) (drop (k + 1) ps))
+        omega (arith, weight-other ns i h (less_property ps k), ap properties_weight (cut_up ns i h k l), properties-weight_join (take k ps) (x ∷ drop (k + 1) ps), properties-weight_join (take k ps) (drop (k + 1) ps))
 
     -- another value of the same length
     module _ (u : Bytes) (same : length u ≡ length x.1) where
@@ -249,7 +242,7 @@ module _ (ns : List Node) (i : ℕ) (h : i < length ns) where
       cell_same = λ j. record { name = length x.0; value = same j }
 
       map_same : map cell_of (set ps k (x.0, u)) ≡ map cell_of ps
-      map_same = ap (map cell_of) set_is ∙ map-append cell_of (take k ps) ((x.0, u) ∷ drop (k + 1) ps) ∙ ap (λ t. map cell_of (take k ps) ++ (t ∷ map cell_of (drop (k + 1) ps))) cell_same ∙ sym (ap (map cell_of) cut_up ∙ map-append cell_of (take k ps) (x ∷ drop (k + 1) ps))
+      map_same = ap (map cell_of) set_is ∙ map-append cell_of (take k ps) ((x.0, u) ∷ drop (k + 1) ps) ∙ ap (λ t. map cell_of (take k ps) ++ (t ∷ map cell_of (drop (k + 1) ps))) cell_same ∙ sym (ap (map cell_of) (cut_up ns i h k l) ∙ map-append cell_of (take k ps) (x ∷ drop (k + 1) ps))
 
       pub cells_over : cells_of over ≡ cells_of ns
       cells_over = cells-other ns i h (set ps k (x.0, u)) ∙ ap (λ t. cells_of (take i ns) ++ (t ++ cells_of (drop (i + 1) ns))) map_same ∙ sym (cells_at_lem ns i h)
@@ -257,7 +250,7 @@ module _ (ns : List Node) (i : ℕ) (h : i < length ns) where
       long_same : length (property_bytes (set ps k (x.0, u))) ≡ length (property_bytes ps)
       unfolding property_bytes
       long_same =
-          omega (arith, same, ap (λ t. length (property_bytes t)) set_is, ap length (property-bytes_join (take k ps) ((x.0, u) ∷ drop (k + 1) ps)), ap (λ t. length (property_bytes t)) cut_up, ap length (property-bytes_join (take k ps) (x ∷ drop (k + 1) ps)), length-append (property_bytes (take k ps)) (property_bytes (x ∷ drop (k + 1) ps)), length-append (property_bytes (take k ps)) (property_bytes ((x.0, u) ∷ drop (k + 1) ps)), length-append x.0 (x.1 ++ property_bytes (drop (k + 1) ps)), length-append x.1 (property_bytes (drop (k + 1) ps)), length-append x.0 (u ++ property_bytes (drop (k + 1) ps)), length-append u (property_bytes (drop (k + 1) ps)))
+          omega (arith, same, ap (λ t. length (property_bytes t)) set_is, ap length (property-bytes_join (take k ps) ((x.0, u) ∷ drop (k + 1) ps)), ap (λ t. length (property_bytes t)) (cut_up ns i h k l), ap length (property-bytes_join (take k ps) (x ∷ drop (k + 1) ps)), length-append (property_bytes (take k ps)) (property_bytes (x ∷ drop (k + 1) ps)), length-append (property_bytes (take k ps)) (property_bytes ((x.0, u) ∷ drop (k + 1) ps)), length-append x.0 (x.1 ++ property_bytes (drop (k + 1) ps)), length-append x.1 (property_bytes (drop (k + 1) ps)), length-append x.0 (u ++ property_bytes (drop (k + 1) ps)), length-append u (property_bytes (drop (k + 1) ps)))
 
       pub rows-over : rows_of over ≡ rows_of ns
       rows-over =
@@ -268,4 +261,4 @@ module _ (ns : List Node) (i : ℕ) (h : i < length ns) where
       pub weight-over : weight_of over ≡ weight_of ns
       unfolding properties_weight
       weight-over =
-          omega (arith, same, ap (λ t. property_weight (length x.0) t) same, weight-other ns i h (set ps k (x.0, u)), ap properties_weight set_is, properties-weight_join (take k ps) ((x.0, u) ∷ drop (k + 1) ps), ap properties_weight cut_up, properties-weight_join (take k ps) (x ∷ drop (k + 1) ps))
+          omega (arith, same, ap (λ t. property_weight (length x.0) t) same, weight-other ns i h (set ps k (x.0, u)), ap properties_weight set_is, properties-weight_join (take k ps) ((x.0, u) ∷ drop (k + 1) ps), ap properties_weight (cut_up ns i h k l), properties-weight_join (take k ps) (x ∷ drop (k + 1) ps))

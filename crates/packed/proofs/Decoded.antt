@@ -178,9 +178,6 @@ closed_none x e = cond-true (eqb x.nodes 0) [] (read x) (eq-eqb x.nodes 0 e)
 pub opened : (x : Region) → intact x ≡ true → 0 < length (nodes_of x) → Open x
 opened x i l = opened_some x i (λ e. let n : length (nodes_of x) ≡ 0 = ap length (closed_none x e) in omega arith)
 
-pub opened_at : (x : Region) → intact x ≡ true → (i : ℕ) → i < length (nodes_of x) → Open x
-opened_at x e i l = opened x e (omega arith)
-
 -- what a write leaves
 pub record Left (x : Region) (ns : List Node) : Type 0 where
   pub nodes : nodes_of x ≡ ns

@@ -1,6 +1,6 @@
 -- Bytes written behind others. Assumes nothing.
 use Rattle.std.proofs.Common.{◌≡◌, ℕ, suc, ◌+◌, ◌-◌, ◌≤◌, [], ◌∷◌, ◌++◌, length, take, drop, replicate, sym, ap, ◌∙◌, append_assoc, arith, length-append}
-use Rattle.std.proofs.lemmas.List.{take_at, drop_at, length-take-le, length-drop, take-take}
+use Rattle.std.proofs.lemmas.List.{take_at, drop_at, take-take}
 use Rattle.std.specs.List.{between}
 use Rattle.tree.specs.Numbers.{pad4}
 use Rattle.tree.specs.Places.{Bytes}

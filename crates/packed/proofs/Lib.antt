@@ -6,5 +6,6 @@ pub mod Grown
 pub mod Marks
 pub mod Named
 pub mod Nodes
+pub mod Places
 pub mod Spots
 pub mod Tokens

@@ -6,13 +6,11 @@ ghost use Rattle.packed.specs.Packing.{token_bytes};
 ghost use Rattle.splices.specs.Splices.{written};
 ghost use Rattle.tree.specs.Numbers.{bytes32, pad4};
 
+use crate::region::STRUCTURE_START;
+use blob::types::Tag;
 use splices::lent::Lent;
 use splices::put;
 use tree::numbers::rounded4;
-
-const BEGIN: u32 = 1;
-
-const PROPERTY: u32 = 3;
 
 // Writes zero bytes, four at the most.
 fn put_zeros(out: &mut Lent<u8>, n: usize)
@@ -42,7 +40,7 @@ pub fn put_begin(out: &mut Lent<u8>, name: &[u8])
     ensures items { take out.new.used out.new.items.now ≡ take out.old.used out.old.items.now ++ token_bytes 0 (begin name.now) }
     ensures kept { length out.new.items.now ≡ length out.old.items.now }
 {
-    append32(out, BEGIN);
+    append32(out, Tag::Begin as u32);
     out.append(name);
     let n = name.len();
     put_zeros(out, rounded4(n + 1) - n);
@@ -56,7 +54,7 @@ pub fn put_property(out: &mut Lent<u8>, k: u32, value: &[u8])
     ensures kept { length out.new.items.now ≡ length out.old.items.now }
 {
     let n = value.len();
-    append32(out, PROPERTY);
+    append32(out, Tag::Property as u32);
     append32(out, n as u32);
     append32(out, k);
     out.append(value);
@@ -87,8 +85,8 @@ pub fn put_sizes(xs: &mut [u8], structure: usize, strings: usize)
     requires { (40 ≤ length xs.old) × (56 + structure + strings ≤ 40960) }
     ensures { Resized xs.old structure strings xs.new }
 {
-    put32(xs, 4, (56 + structure + strings) as u32);
-    put32(xs, 12, (56 + structure) as u32);
+    put32(xs, 4, (STRUCTURE_START + structure + strings) as u32);
+    put32(xs, 12, (STRUCTURE_START + structure) as u32);
     put32(xs, 32, strings as u32);
     put32(xs, 36, structure as u32);
 }

@@ -4,16 +4,13 @@ ghost use Rattle.packed.specs.Packing.{spot_of, begin_of, first_of, mark_of};
 ghost use Rattle.packed.specs.Regions.{nodes_of, intact};
 ghost use Rattle.tape.specs.Tapes.{Counted, Here, On, Reads, nth, properties_at, property_of};
 
-use crate::region::Region;
+use crate::region::{Region, STRUCTURE_START};
 use blob::numbers::be32_at;
+use blob::types::Tag;
 use names::names::find;
 use tape::{Head, Mark, Spot};
 use tree::counts::Counts;
 use tree::numbers::rounded4;
-
-const END: u32 = 2;
-
-const PROPERTY: u32 = 3;
 
 // Memory that is closed or holds its nodes.
 pub struct Packed<'a> {
@@ -43,7 +40,7 @@ impl Packed<'_> {
     {
         let mut at = s.at;
         let mut depth = s.property;
-        while be32_at(self.region.bytes, at) == END {
+        while be32_at(self.region.bytes, at) == Tag::End as u32 {
             at += 4;
             depth -= 1;
         }
@@ -57,7 +54,7 @@ impl Packed<'_> {
         ensures { result ≡ length (nth (nodes_of self.now.region) s.node).name }
     {
         let from = at + 4;
-        let to = 56 + self.region.structure;
+        let to = STRUCTURE_START + self.region.structure;
         find(&self.region.bytes[from..to], 0)
     }
 
@@ -82,7 +79,7 @@ impl Packed<'_> {
     {
         let mut at = from;
         let mut count = 0;
-        while be32_at(self.region.bytes, at) == PROPERTY {
+        while be32_at(self.region.bytes, at) == Tag::Property as u32 {
             let n = be32_at(self.region.bytes, at + 4) as usize;
             at += 12 + rounded4(n);
             count += 1;
@@ -137,7 +134,7 @@ impl Packed<'_> {
         requires { On (nodes_of self.now.region) (mark_of (nodes_of self.now.region)) m }
         ensures { result.now ≡ (property_of (nodes_of self.now.region) m.node m.number).0 }
     {
-        let strings = 56 + self.region.structure;
+        let strings = STRUCTURE_START + self.region.structure;
         let from = strings + be32_at(self.region.bytes, m.at + 8) as usize;
         let end = strings + self.region.strings;
         let n = find(&self.region.bytes[from..end], 0);

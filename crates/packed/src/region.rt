@@ -1,6 +1,10 @@
 // The memory of the packed store: a blob in front of lent bytes.
 
-// The blob's structure block is at 56, its strings block right behind it. Without nodes the store is closed.
+// Where the structure block begins, behind the header and an empty reservation block.
+pub const STRUCTURE_START: usize = 56;
+
+// The strings block is right behind the structure block: their sizes say how many of the bytes are in use. Without nodes the
+// store is closed.
 pub struct Region<'a> {
     pub bytes: &'a mut [u8],
     pub nodes: usize,

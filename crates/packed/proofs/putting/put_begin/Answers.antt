@@ -1,5 +1,5 @@
-use Rattle.std.proofs.Common.{ℕ, ◌+◌, ◌-◌, ◌++◌, length, take, replicate, ap, ◌∙◌, append_assoc, arith}
-use Rattle.tree.specs.Numbers.{bytes32, pad4}
+use Rattle.std.proofs.Common.{ℕ, ◌-◌, ◌++◌, length, take, replicate, ap, ◌∙◌, append_assoc, arith}
+use Rattle.tree.specs.Numbers.{bytes32}
 use Rattle.packed.proofs.Grown.{padding}
 use Rattle.packed.proofs.putting.put_begin.Goals as goal
 

@@ -1,5 +1,5 @@
-use Rattle.std.proofs.Common.{ℕ, ◌-◌, ◌++◌, length, take, replicate, ap, ◌∙◌, append_assoc, arith}
-use Rattle.tree.specs.Numbers.{bytes32, pad4}
+use Rattle.std.proofs.Common.{ℕ, ◌-◌, ◌++◌, length, take, replicate, ap, ◌∙◌, append_assoc}
+use Rattle.tree.specs.Numbers.{bytes32}
 use Rattle.packed.proofs.putting.put_property.Goals as goal
 
 pub returns-clause-items : goal.returns-clause-items

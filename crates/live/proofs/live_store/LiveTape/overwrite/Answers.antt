@@ -1,4 +1,4 @@
-use Rattle.std.proofs.Common.{◌+◌, refl, ap, ◌∙◌, arith}
+use Rattle.std.proofs.Common.{◌+◌, refl, ap, arith}
 use Rattle.live.specs.declared.memory.Memory.{Memory}
 use Rattle.live.specs.Records.{flat_rows, flat_cells}
 use Rattle.live.proofs.Edited.{overwritten}

@@ -1,14 +1,9 @@
-use Rattle.std.proofs.Common.{◌≡◌, ◌+◌, ◌-◌, ◌≤◌, length, get_or, set, refl, ap, ◌∙◌, arith}
-use borrow.Rule.Slice.Mut.{set_vals}
-use Rattle.std.proofs.lemmas.List.{length-set}
-use Rattle.tape.specs.Tapes.{property_of}
+use Rattle.std.proofs.Common.{◌-◌, refl, ap, ◌∙◌, arith}
 use Rattle.tree.specs.Counting.{property_weight}
 use Rattle.live.specs.declared.memory.Memory.{Memory}
-use Rattle.live.specs.declared.memory.NodeRecord.{NodeRecord}
-use Rattle.live.specs.declared.memory.PropertyRecord.{PropertyRecord}
 use Rattle.live.specs.Records.{flat_rows, flat_cells, held, spot_in}
 use Rattle.live.proofs.Edited.{property_removed}
-use Rattle.live.proofs.Kept.{no_row, no_cell, at_spot, at_mark, on_node, spot_row, spot_stays}
+use Rattle.live.proofs.Kept.{at_spot, at_mark, on_node, spot_stays}
 use Rattle.live.proofs.Moved.{cut-sizes, weight-cut}
 use Rattle.live.proofs.Whole.{whole}
 use Rattle.live.proofs.live_store.LiveTape.remove_property.Goals as goal
@@ -71,74 +66,23 @@ pub invariant_of-self : goal.invariant_of-self
 invariant_of-self c =
     let m = c.args.self.now.memory in
     let w = whole c.args.self.now in
-    let p = c.args.s in
-    let h = c.requires.here in
-    let k = c.args.m in
-    let o = on_node m w p.node k c.requires.on.0 c.requires.on.1 in
-    let cell : PropertyRecord = get_or m.properties.items.now k.property no_cell in
-    let n = cell.name + cell.value in
-    let old : NodeRecord = get_or m.nodes.items.now p.node no_row in
-    let row : NodeRecord = record { depth = old.depth; name = old.name; properties = old.properties - 1; bytes = old.bytes - n } in
-    let long = length-set m.nodes.items.now p.node row in
-    let in-rows : m.nodes.used ≤ length (set m.nodes.items.now p.node row) = omega (arith, m.nodes.within, long) in
-    let x : Memory = record {
-      nodes = record { items = set_vals (set m.nodes.items.now p.node row) m.nodes.items; used = m.nodes.used; within = in-rows };
-      properties = c.remove.new.self;
-      pool = c.remove-2.new.self;
-      weight = m.weight - c.property_weight.result;
-      boot = m.boot;
-    } in
-    let weight = ap (λ t. m.weight - t) (c.property_weight.ensures ∙ (λ j. property_weight (o.name j) (o.value j))) in
-    let size : n ≡ length (property_of (held m) p.node k.number).0 + length (property_of (held m) p.node k.number).1 = λ j. o.name j + o.value j in
-    let r = (property_removed m x w (omega (arith, h.inside)) p.node k.number k.property k.at n old h.inside o.within (spot_row m w p h) o.property o.at size refl c.remove.ensures.items c.remove-2.ensures.items long c.remove.ensures.kept c.remove-2.ensures.kept weight refl c.requires.sound).whole in
+    let on = on_node m w c.args.s.node c.args.m c.requires.on.0 c.requires.on.1 in
+    let x : Memory = record { nodes = m.nodes; properties = c.remove.new.self; pool = c.remove-2.new.self; weight = m.weight - c.property_weight.result; boot = m.boot } in
+    let r = (property_removed m x w c.args.s c.requires.here refl refl refl c.args.m on c.remove.ensures.items c.remove-2.ensures.items c.remove.ensures.kept c.remove-2.ensures.kept (ap (λ n. m.weight - n) c.property_weight.ensures) refl c.requires.sound).whole in
     record { rows = ap flat_rows r.rows; cells = ap flat_cells r.cells; bytes = r.bytes; weight = r.weight; room = r.room; sound = r.sound }
 
 pub returns-clause-nodes : goal.returns-clause-nodes
 returns-clause-nodes c =
     let m = c.args.self.now.memory in
     let w = whole c.args.self.now in
-    let p = c.args.s in
-    let h = c.requires.here in
-    let k = c.args.m in
-    let o = on_node m w p.node k c.requires.on.0 c.requires.on.1 in
-    let cell : PropertyRecord = get_or m.properties.items.now k.property no_cell in
-    let n = cell.name + cell.value in
-    let old : NodeRecord = get_or m.nodes.items.now p.node no_row in
-    let row : NodeRecord = record { depth = old.depth; name = old.name; properties = old.properties - 1; bytes = old.bytes - n } in
-    let long = length-set m.nodes.items.now p.node row in
-    let in-rows : m.nodes.used ≤ length (set m.nodes.items.now p.node row) = omega (arith, m.nodes.within, long) in
-    let x : Memory = record {
-      nodes = record { items = set_vals (set m.nodes.items.now p.node row) m.nodes.items; used = m.nodes.used; within = in-rows };
-      properties = c.remove.new.self;
-      pool = c.remove-2.new.self;
-      weight = m.weight - c.property_weight.result;
-      boot = m.boot;
-    } in
-    let weight = ap (λ t. m.weight - t) (c.property_weight.ensures ∙ (λ j. property_weight (o.name j) (o.value j))) in
-    let size : n ≡ length (property_of (held m) p.node k.number).0 + length (property_of (held m) p.node k.number).1 = λ j. o.name j + o.value j in
-    (property_removed m x w (omega (arith, h.inside)) p.node k.number k.property k.at n old h.inside o.within (spot_row m w p h) o.property o.at size refl c.remove.ensures.items c.remove-2.ensures.items long c.remove.ensures.kept c.remove-2.ensures.kept weight refl c.requires.sound).is
+    let on = on_node m w c.args.s.node c.args.m c.requires.on.0 c.requires.on.1 in
+    let x : Memory = record { nodes = m.nodes; properties = c.remove.new.self; pool = c.remove-2.new.self; weight = m.weight - c.property_weight.result; boot = m.boot } in
+    (property_removed m x w c.args.s c.requires.here refl refl refl c.args.m on c.remove.ensures.items c.remove-2.ensures.items c.remove.ensures.kept c.remove-2.ensures.kept (ap (λ n. m.weight - n) c.property_weight.ensures) refl c.requires.sound).is
 
 pub returns-clause-same : goal.returns-clause-same
 returns-clause-same c =
     let m = c.args.self.now.memory in
     let w = whole c.args.self.now in
-    let p = c.args.s in
-    let h = c.requires.here in
-    let k = c.args.m in
-    let o = on_node m w p.node k c.requires.on.0 c.requires.on.1 in
-    let cell : PropertyRecord = get_or m.properties.items.now k.property no_cell in
-    let n = cell.name + cell.value in
-    let old : NodeRecord = get_or m.nodes.items.now p.node no_row in
-    let row : NodeRecord = record { depth = old.depth; name = old.name; properties = old.properties - 1; bytes = old.bytes - n } in
-    let long = length-set m.nodes.items.now p.node row in
-    let in-rows : m.nodes.used ≤ length (set m.nodes.items.now p.node row) = omega (arith, m.nodes.within, long) in
-    let x : Memory = record {
-      nodes = record { items = set_vals (set m.nodes.items.now p.node row) m.nodes.items; used = m.nodes.used; within = in-rows };
-      properties = c.remove.new.self;
-      pool = c.remove-2.new.self;
-      weight = m.weight - c.property_weight.result;
-      boot = m.boot;
-    } in
-    let weight = ap (λ t. m.weight - t) (c.property_weight.ensures ∙ (λ j. property_weight (o.name j) (o.value j))) in
-    let size : n ≡ length (property_of (held m) p.node k.number).0 + length (property_of (held m) p.node k.number).1 = λ j. o.name j + o.value j in
-    ap (λ t. spot_in t p.node) (property_removed m x w (omega (arith, h.inside)) p.node k.number k.property k.at n old h.inside o.within (spot_row m w p h) o.property o.at size refl c.remove.ensures.items c.remove-2.ensures.items long c.remove.ensures.kept c.remove-2.ensures.kept weight refl c.requires.sound).is ∙ spot_stays (held m) p.node _
+    let on = on_node m w c.args.s.node c.args.m c.requires.on.0 c.requires.on.1 in
+    let x : Memory = record { nodes = m.nodes; properties = c.remove.new.self; pool = c.remove-2.new.self; weight = m.weight - c.property_weight.result; boot = m.boot } in
+    ap (λ t. spot_in t c.args.s.node) (property_removed m x w c.args.s c.requires.here refl refl refl c.args.m on c.remove.ensures.items c.remove-2.ensures.items c.remove.ensures.kept c.remove-2.ensures.kept (ap (λ n. m.weight - n) c.property_weight.ensures) refl c.requires.sound).is ∙ spot_stays (held m) c.args.s.node _

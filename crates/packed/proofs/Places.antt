@@ -1,0 +1,114 @@
+-- What is known of the tokens at a spot and at a mark. Assumes nothing.
+use Rattle.std.proofs.Common.{◌≡◌, ℕ, ◌+◌, ◌<◌, ◌≤◌, length, drop, ap, ◌∙◌, arith}
+use Rattle.std.specs.List.{between}
+use Rattle.names.specs.Names.{before}
+use Rattle.tree.specs.Numbers.{be32, pad4}
+use Rattle.tape.specs.declared.Mark.{Mark}
+use Rattle.tape.specs.declared.Spot.{Spot}
+use Rattle.tape.specs.Tapes.{Here, On, nth, property_of}
+use Rattle.tape.proofs.Sounds.{parts}
+use Rattle.tape.proofs.Sums.{within_limits}
+use Rattle.packed.specs.Packing.{spot_of, begin_of, first_of, mark_of}
+use Rattle.packed.specs.Regions.{memory, nodes_of, Open}
+use Rattle.packed.specs.declared.reading.Packed.{Packed}
+use Rattle.packed.specs.declared.region.Region.{Region}
+use Rattle.packed.proofs.Cursors.{text-is}
+use Rattle.packed.proofs.Decoded.{opened}
+use Rattle.packed.proofs.Marks.{name-room, name-here, name-long, property-room, size-here, offset-here, value-here, string_here, string_long, mark-next, properties-within}
+use Rattle.packed.proofs.Spots.{depth_small}
+
+pub open_at : (p : Packed) (i : ℕ) → i < length (nodes_of p.region) → Open p.region
+open_at p i l = opened p.region p.intact (omega arith)
+
+-- ---- at a spot
+
+pub record AtSpot (x : Region) (s : Spot) : Type 0 where
+  pub low : begin_of (nodes_of x) s.node + (4 + pad4 (length (nth (nodes_of x) s.node).name + 1)) ≤ 56 + x.structure
+  pub held : 56 + x.structure ≤ length (memory x)
+  pub small : 56 + x.structure + x.strings ≤ 40960
+  pub few : s.node < 256
+  pub depth : (nth (nodes_of x) s.node).depth < 256
+
+module _ (p : Packed) (s : Spot) (h : Here (nodes_of p.region) (spot_of (nodes_of p.region)) s) where
+  pub at_spot : AtSpot p.region s
+  at_spot =
+      let x = p.region in
+      let l = h.inside in
+      let o = open_at p s.node h.inside in
+      let r = name-room x o s.node h.inside in
+      let w = (within_limits x.boot (nodes_of x) o.valid).0 in
+      let d = depth_small (nodes_of x) s.node (parts x.boot (nodes_of x) o.valid).shape h.inside in
+      record { low = r.0; held = r.1; small = r.2; few = omega arith; depth = omega arith }
+
+  pub name-length-is : (at n : ℕ) → at ≡ begin_of (nodes_of p.region) s.node → n ≡ before 0 (between (at + 4) (56 + p.region.structure) (memory p.region)) → n ≡ length (nth (nodes_of p.region) s.node).name
+  name-length-is at n e f =
+      f ∙ ap (λ k. before 0 (between (k + 4) (56 + p.region.structure) (memory p.region))) e ∙ name-long p.region (open_at p s.node h.inside) s.node h.inside
+
+  pub name-is : (at n : ℕ) → at ≡ begin_of (nodes_of p.region) s.node → n ≡ length (nth (nodes_of p.region) s.node).name → between (at + 4) (at + 4 + n) (memory p.region) ≡ (nth (nodes_of p.region) s.node).name
+  name-is at n e f =
+      let t = name-here p.region (open_at p s.node h.inside) s.node h.inside in
+      text-is (memory p.region) _ t.0 (at + 4) n (ap (λ k. drop (k + 4) (memory p.region)) e ∙ t.1) f
+
+  pub first-is : (at n r : ℕ) → at ≡ begin_of (nodes_of p.region) s.node → n ≡ length (nth (nodes_of p.region) s.node).name → r ≡ pad4 (n + 1) → at + 4 + r ≡ first_of (nodes_of p.region) s.node
+  unfolding first_of
+  first-is at n r e f g = let z = ap (λ k. pad4 (k + 1)) f in omega arith
+
+-- ---- at a mark
+
+pub record AtMark (x : Region) (m : Mark) : Type 0 where
+  pub low : m.at + (12 + pad4 (length (property_of (nodes_of x) m.node m.number).1)) ≤ 56 + x.structure
+  pub small : 56 + x.structure + x.strings ≤ 40960
+  pub room : 40960 ≤ length (memory x)
+  pub number : m.number < 1024
+  pub size : be32 (memory x) (m.at + 4) ≡ length (property_of (nodes_of x) m.node m.number).1
+  pub string : be32 (memory x) (m.at + 8) + (length (property_of (nodes_of x) m.node m.number).0 + 1) ≤ x.strings
+
+module _ (p : Packed) (m : Mark) (h : On (nodes_of p.region) (mark_of (nodes_of p.region)) m) where
+  abbrev o : Open p.region
+  o = open_at p m.node h.inside
+
+  pub at_mark : AtMark p.region m
+  at_mark =
+      let r = property-room p.region o m.node h.inside m.number h.within in
+      let e = ap (λ z. z.at) h.is in
+      let w = (within_limits p.region.boot (nodes_of p.region) o.valid).1 in
+      let k = properties-within (nodes_of p.region) m.node in
+      let l = h.within in
+      let f = ap (λ z. be32 (memory p.region) (z.at + 8)) h.is ∙ offset-here p.region o m.node h.inside m.number h.within in
+      record {
+        low = omega (arith, r.0);
+        small = r.1;
+        room = r.2;
+        number = omega arith;
+        size = ap (λ z. be32 (memory p.region) (z.at + 4)) h.is ∙ size-here p.region o m.node h.inside m.number h.within;
+        string = omega (arith, r.3, f);
+      }
+
+  pub value-is : (n : ℕ) → n ≡ be32 (memory p.region) (m.at + 4) → between (m.at + 12) (m.at + 12 + n) (memory p.region) ≡ (property_of (nodes_of p.region) m.node m.number).1
+  value-is n e =
+      let s = e ∙ at_mark.size in
+      (λ i. between ((h.is i).at + 12) ((h.is i).at + 12 + s i) (memory p.region)) ∙ value-here p.region o m.node h.inside m.number h.within
+
+  pub behind-is : (n r : ℕ) → n ≡ be32 (memory p.region) (m.at + 4) → r ≡ pad4 n → record { node = m.node; number = m.number + 1; property = 0; at = m.at + 12 + r } ≡ mark_of (nodes_of p.region) m.node (m.number + 1)
+  unfolding mark_of
+  behind-is n r e f =
+      let s = ap pad4 (e ∙ at_mark.size) in
+      let q = mark-next p.region o m.node h.inside m.number h.within in
+      let d = ap (λ z. z.at) h.is in
+      let t : m.at + 12 + r ≡ (mark_of (nodes_of p.region) m.node (m.number + 1)).at = omega arith in
+      λ j. record { node = m.node; number = m.number + 1; property = 0; at = t j }
+
+  -- a property's name, where k is its offset in the strings block and n what is found to be its length
+  module _ (k n : ℕ) (e : k ≡ be32 (memory p.region) (m.at + 8)) (f : n ≡ before 0 (between (56 + p.region.structure + k) (56 + p.region.structure + p.region.strings) (memory p.region))) where
+    offset : k ≡ (Rattle.packed.proofs.Marks.cursor p.region o m.node h.inside m.number h.within).k
+    offset = e ∙ ap (λ z. be32 (memory p.region) (z.at + 8)) h.is ∙ offset-here p.region o m.node h.inside m.number h.within
+
+    pub string-length : n ≡ length (property_of (nodes_of p.region) m.node m.number).0
+    string-length =
+        f ∙ ap (λ z. before 0 (between (56 + p.region.structure + z) (56 + p.region.structure + p.region.strings) (memory p.region))) offset
+        ∙ string_long p.region o m.node h.inside m.number h.within
+
+    pub string-is : between (56 + p.region.structure + k) (56 + p.region.structure + k + n) (memory p.region) ≡ (property_of (nodes_of p.region) m.node m.number).0
+    string-is =
+        text-is (memory p.region) (property_of (nodes_of p.region) m.node m.number).0 _ (56 + p.region.structure + k) n
+        (ap (λ z. drop (56 + p.region.structure + z) (memory p.region)) offset ∙ string_here p.region o m.node h.inside m.number h.within) string-length
