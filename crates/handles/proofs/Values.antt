@@ -1,7 +1,8 @@
 -- The phandle of one node, by the questions for it. Assumes nothing.
 use Rattle.std.proofs.Common.{◌≡◌, ℕ, ◌+◌, ◌-◌, ◌*◌, ◌<◌, ◌≤◌, true, ◌&&◌, leb, [], ◌++◌, length, get_or, drop, replicate, Some, None, Ok, Err, codes, Option, sym, refl, ap, ◌∙◌, ⊎_elim, arith}
 use Rattle.std.proofs.lemmas.List.{get_or_append_left, get_or-append_right, get_or_past, get_or-replicate, drop-replicate}
-use Rattle.std.proofs.lemmas.Bool.{cases_lt, cond-true, and_from, and_parts, leb-true}
+use Rattle.std.proofs.lemmas.Bool.{cases_lt, cond-true, true≢false, and_from, and_parts, leb-true}
+use Rattle.std.specs.Option.{is_some}
 use Rattle.names.specs.Names.{node_byte, property_byte, property_name}
 use Rattle.names.specs.Paths.{path_text}
 use Rattle.tree.specs.Numbers.{be32}
@@ -47,6 +48,10 @@ number-over v =
     let d = over_zeros v 4096 3 (omega arith) in
     (λ i. a i * 16777216 + b i * 65536 + c i * 256 + d i)
 
+pub some_length : (o : Option ℕ) → is_some o ≡ true → (n : ℕ) × (o ≡ Some n)
+some_length None h = absurd (true≢false (sym h))
+some_length (Some n) h = (n, refl)
+
 module _ (M : Meaning) (p : Bytes) (g : Good M) (st : Stands M p) where
   pub never-refused : (e : Refusal) → length_of (value_at M p PH) ≡ Err e → ⊥
   never-refused e h = go (handle_at M p) (sym (ap length_of (value-known M p g st)) ∙ h)
@@ -73,14 +78,13 @@ module _ (M : Meaning) (p : Bytes) (g : Good M) (st : Stands M p) where
           let z : ◌≡◌ {A = ℕ} 0 1 = cc in
           omega arith
 
-  pub present : (n : ℕ) (last : Bytes) → length_of (value_at M p PH) ≡ Ok (Some n) → last ≡ filled (value_at M p PH) (replicate 4096 0) → noted (handle_at M p) ≡ Some (record { len = n; number = be32 last 0 })
+  pub present : (n : ℕ) (last : Bytes) → length_of (value_at M p PH) ≡ Ok (Some n) → last ≡ filled (value_at M p PH) (replicate 4096 0) → noted (handle_at M p) ≡ Some (be32 last 0)
   present n last h k = go (handle_at M p) refl (sym (ap length_of (value-known M p g st)) ∙ h) (k ∙ ap (λ x. filled x (replicate 4096 0)) (value-known M p g st))
     where
-      go : (o : Option Bytes) → handle_at M p ≡ o → length_of (Ok o) ≡ Ok (Some n) → last ≡ filled (Ok o) (replicate 4096 0) → noted o ≡ Some (record { len = n; number = be32 last 0 })
+      go : (o : Option Bytes) → handle_at M p ≡ o → length_of (Ok o) ≡ Ok (Some n) → last ≡ filled (Ok o) (replicate 4096 0) → noted o ≡ Some (be32 last 0)
       go None q x y = let z : ◌≡◌ {A = ℕ} 0 1 = cc in absurd (omega arith)
       go (Some v) q x y =
           let s = Rattle.std.proofs.lemmas.Bool.le-leb (length v) 4096 (short_value M p v g q) in
           let w = y ∙ cond-true (leb (length v) 4096) (over v (replicate 4096 0)) (replicate 4096 0) s in
-          let a : length v ≡ n = cc in
           let b : be32 v 0 ≡ be32 last 0 = sym (number-over v) ∙ ap (λ xs. be32 xs 0) (sym w) in
-          λ i. Some (record { len = a i; number = b i })
+          ap Some b

@@ -1,5 +1,5 @@
 -- What the searches for phandles answer. Assumes nothing.
-use Rattle.std.specs.Prelude.{ℕ, Bool, false, [], ◌∷◌, length, Some, None, Ok, Err, codes, Option, Result, ◌==◌, nat_le}
+use Rattle.std.specs.Prelude.{ℕ, Bool, [], ◌∷◌, Some, None, Ok, Err, codes, Option, Result, nat_le}
 use Rattle.tree.specs.Numbers.{be32}
 use Rattle.tree.specs.Phandles.{largest_phandle, holder, phandle_rule}
 use Rattle.tree.specs.Places.{Bytes, property_at}
@@ -7,7 +7,6 @@ use Rattle.tree.specs.Trees.{look}
 use Rattle.store.specs.Calls.{Meaning, closed, holds, tested}
 use Rattle.store.specs.declared.Refusal.{Refusal}
 use Rattle.store.specs.declared.Refusal.TheVariants.{Closed, Short}
-use Rattle.handles.specs.declared.handles.Handle.{Handle}
 
 -- the largest phandle, 0 if there is none
 abbrev pub largest_in : Meaning → Result ℕ Refusal
@@ -31,16 +30,7 @@ abbrev pub handle_at : Meaning → Bytes → Option Bytes
 handle_at closed p = None
 handle_at (holds t) p = look t (property_at p (codes "phandle"))
 
--- its length and its number
-abbrev pub noted : Option Bytes → Option Handle
+-- its number
+abbrev pub noted : Option Bytes → Option ℕ
 noted None = None
-noted (Some v) = Some (record { len = length v; number = be32 v 0 })
-
--- the number, 0 where there is none
-abbrev pub number_of : Option Handle → ℕ
-number_of None = 0
-number_of (Some h) = h.number
-
-abbrev pub has_number : Option Handle → ℕ → Bool
-has_number None n = false
-has_number (Some h) n = h.number == n
+noted (Some v) = Some (be32 v 0)

@@ -1,5 +1,5 @@
 -- The turns of a walk. Assumes nothing.
-use Rattle.std.proofs.Common.{◌≡◌, ℕ, ◌+◌, ◌-◌, ◌<◌, ◌≤◌, Bool, true, false, cond, ◌||◌, eqb, leb, ◌⊎◌, [], ◌∷◌, ◌++◌, length, take, drop, is_some, Some, None, Ok, Err, Option, Result, sym, refl, ap, ◌∙◌, subst, inl, inr, ⊎_elim, append_assoc, arith, length-append}
+use Rattle.std.proofs.Common.{◌≡◌, ℕ, ◌+◌, ◌<◌, ◌≤◌, Bool, true, false, cond, ◌||◌, eqb, leb, ◌⊎◌, [], ◌∷◌, ◌++◌, length, take, drop, is_some, Some, None, Ok, Err, Option, Result, sym, refl, ap, ◌∙◌, inl, inr, ⊎_elim, arith, length-append}
 use Rattle.std.proofs.lemmas.List.{take_at, take_all, length-take-le, take-take, nil_from_length}
 use Rattle.std.proofs.lemmas.Bool.{cases_Bool, and_from, or_right, or_left, eq-eqb, cond-true, leb-true, leb-false, le-leb, and_parts}
 use Rattle.names.specs.Names.{node_name}
@@ -8,7 +8,7 @@ use Rattle.names.proofs.NameLaws.{node_names}
 use Rattle.names.proofs.PathLaws.{by-root, path_splits, path_starts, stem-root}
 use Rattle.tree.specs.Places.{Bytes, node_at}
 use Rattle.tree.specs.Trees.{Tree, Sound, look}
-use Rattle.store.specs.Calls.{Meaning, closed, holds, Good, tested, there, length_of, named, over, next_child, child_on, names, least_after}
+use Rattle.store.specs.Calls.{Meaning, closed, holds, Good, tested, there, length_of, named, next_child, child_on, names, least_after}
 use Rattle.store.specs.declared.Refusal.{Refusal}
 use Rattle.store.specs.declared.Refusal.TheVariants.{BadName, Absent, Short}
 use Rattle.walk.specs.Steps.{Stands, Next}
@@ -132,9 +132,6 @@ pub by_err : (X : Result (Option Bytes) Refusal) (e : Refusal) → Err e ≡ len
 by_err (Err d) e h = let z : d ≡ e = cc in ap Err z
 by_err (Ok None) e h = let z : ◌≡◌ {A = ℕ} 0 1 = cc in absurd (omega arith)
 by_err (Ok (Some v)) e h = let z : ◌≡◌ {A = ℕ} 0 1 = cc in absurd (omega arith)
-
-pub less_none : (n : ℕ) (xs : Bytes) → take (n - 0) xs ≡ take n xs
-less_none n xs = let z : n - 0 ≡ n = omega arith in ap (λ k. take k xs) z
 
 text_standing : (M : Meaning) (p r a : Bytes) → Good M → Standing M p r a → path_text r ≡ true
 text_standing closed p r a g h = absurd h

@@ -1,26 +1,19 @@
 -- What a walk has yet to come to, for loops over it. Assumes nothing.
-use Rattle.std.proofs.Common.{◌≡◌, ℕ, ◌<◌, ◌≤◌, Bool, true, ◌⊎◌, List, [], ◌∷◌, Some, None, Option, Less, sym, refl, ap, ◌∙◌, subst, inl, inr, ⊎_elim, arith}
+use Rattle.std.proofs.Common.{◌≡◌, ℕ, ◌<◌, ◌≤◌, Bool, true, [], ◌∷◌, Some, None, Option, sym, refl, ap, ◌∙◌, subst, ⊎_elim, arith}
 use Rattle.std.proofs.lemmas.Bool.{cases_Bool, and_parts}
-use Rattle.std.specs.Ordering.{is_lt, nat_cmp}
+use Rattle.std.specs.Ordering.{is_lt}
 use Rattle.names.specs.Names.{property_name}
-use Rattle.names.specs.Orders.{name_order, path_order}
+use Rattle.names.specs.Orders.{path_order}
 use Rattle.names.specs.Paths.{path_text}
-use Rattle.names.proofs.NameLaws.{property_names}
-use Rattle.names.proofs.Orders.{name_order_lem, path_order_lem}
 use Rattle.tree.specs.Maps.{find, Below, Rises, total}
 use Rattle.tree.specs.Places.{Bytes, Place, node_at, property_at, order}
 use Rattle.tree.specs.Trees.{Places, Tree, Sound, look, node_count, nodes}
 use Rattle.tree.proofs.Maps.{some-none, some_one, find-below, find-tail, head-found}
 use Rattle.tree.proofs.Places.{place-order}
-use Rattle.store.specs.Calls.{later, least_after, property_on, names}
 use Rattle.walk.specs.Walks.{behind, beyond, after, first_path}
 use Rattle.walk.proofs.Ancestors.{some_byte}
-use Rattle.walk.proofs.Behind.{is-less, less-is, not-less, up-beyond, up-after, behind-here, behind-past, behind-rises, behind-held, behind-find, behind-first, behind-behind, behind-same, behind-none, Head, head_of}
-use Rattle.walk.proofs.Least.{least-in, least-least, Ahead, names_in, names-out, property-on, on-property}
-use Rattle.walk.proofs.Orders.{less_greater, equal_less, never_less, less-paths, paths-less, paths-same, own-property}
-use Rattle.walk.proofs.Runs.{found_in}
-use Rattle.std.specs.Cmp.Lexicographic.{slice_cmp}
-use Rattle.std.specs.Option.{option_cmp}
+use Rattle.walk.proofs.Behind.{is-less, less-is, not-less, up-beyond, up-after, behind-here, behind-past, behind-rises, behind-held, behind-find, behind-behind, Head, head_of}
+use Rattle.walk.proofs.Orders.{equal_less, paths-less, own-property}
 
 -- a sum over an end of a list is at most that over the list
 pub total-behind : (f : Place → Bytes → ℕ) (g : Place → Bool) (es : Places) → total f (behind g es) ≤ total f es

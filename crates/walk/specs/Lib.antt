@@ -1,3 +1,4 @@
 pub mod Runs
 pub mod Walks
 pub mod Steps
+pub mod Nodes

@@ -1,8 +1,8 @@
 -- What the inner functions of the walk hold on to. Assumes nothing.
-use Rattle.std.specs.Prelude.{◌≡◌, ◌+◌, ◌≤◌, [], ◌∷◌, ◌++◌, length, take, Some, None, Ok, Err, Option, Result}
+use Rattle.std.specs.Prelude.{◌≡◌, ◌+◌, ◌≤◌, ◌==◌, ◌||◌, Bool, true, [], ◌∷◌, ◌++◌, length, take, Some, None, Ok, Err, Option, Result}
 use Rattle.tree.specs.Places.{Bytes, node_at}
 use Rattle.tree.specs.Trees.{look}
-use Rattle.store.specs.Calls.{Meaning, closed, holds}
+use Rattle.store.specs.Calls.{Meaning, closed, holds, there}
 use Rattle.store.specs.declared.Refusal.{Refusal}
 use Rattle.walk.specs.Walks.{next_node}
 use Rattle.walk.specs.declared.walk.Child.{Child}
@@ -11,6 +11,11 @@ use Rattle.walk.specs.declared.walk.Child.{Child}
 abbrev pub Stands : Meaning → Bytes → Type 0
 Stands closed p = ⊥
 Stands (holds t) p = look t (node_at p) ≡ Some []
+
+-- a walk stands at p: it is empty, or the node is there
+abbrev pub walks : Meaning → Bytes → Bool
+walks closed p = true
+walks (holds t) p = length p == 0 || there t (node_at p)
 
 -- the child is the next node behind the one at p
 pub record Next (m : Meaning) (p : Bytes) (c : Child) : Type 0 where

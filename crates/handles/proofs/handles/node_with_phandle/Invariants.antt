@@ -1,16 +1,15 @@
-use Rattle.std.proofs.Common.{◌≡◌, ◌≤◌, length, take}
+use Rattle.std.proofs.Common.{◌≡◌, take}
 use Rattle.tree.specs.Phandles.{holder_of}
-use Rattle.walk.proofs.Walking.{Walking, left}
+use Rattle.walk.proofs.Walking.{left}
 use Rattle.handles.proofs.Rests.{rest, all}
 use Rattle.handles.proofs.handles.node_with_phandle.Given as goal
 
-abbrev pub invariant-loop-n : goal.invariant-loop-n
-invariant-loop-n g l =
-    (length l.path ≡ 256)
-    × (l.len ≤ 256)
-    × Walking (g.R.Readable.meaning l.tree) (take l.len l.path)
-    × (holder_of l.number (rest (g.R.Readable.meaning l.tree) (take l.len l.path)) ≡ holder_of l.number (all (g.R.Readable.meaning l.tree)))
-    × (l.out ≡ l.initial.out)
+abbrev pub invariant-loop-path : goal.invariant-loop-path
+invariant-loop-path g l = record {
+  tree : l.nodes.tree.now ≡ l.tree;
+  so_far : holder_of l.number (rest (g.R.Readable.meaning l.tree) (take l.nodes.len l.nodes.path)) ≡ holder_of l.number (all (g.R.Readable.meaning l.tree));
+  out : l.out ≡ l.initial.out;
+}
 
-abbrev pub decreases-loop-n : goal.decreases-loop-n
-decreases-loop-n g l = left (g.R.Readable.meaning l.tree) (take l.len l.path)
+abbrev pub decreases-loop-path : goal.decreases-loop-path
+decreases-loop-path g l = left (g.R.Readable.meaning l.tree) (take l.nodes.len l.nodes.path)

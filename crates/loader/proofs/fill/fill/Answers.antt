@@ -1,4 +1,4 @@
-use Rattle.std.proofs.Common.{◌≡◌, drop, sym, ap, ◌∙◌}
+use Rattle.std.proofs.Common.{drop, sym, ap, ◌∙◌}
 use Rattle.names.specs.Paths.{root}
 use Rattle.loader.specs.Writing.{run}
 use Rattle.loader.proofs.Steps.{run_none, run_loads}

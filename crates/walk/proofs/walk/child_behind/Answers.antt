@@ -1,7 +1,6 @@
-use Rattle.std.proofs.Common.{◌≡◌, ◌<◌, length, take, Ok, sym, refl, ap, ◌∙◌, subst, arith}
+use Rattle.std.proofs.Common.{◌<◌, length, take, Ok, sym, ap, ◌∙◌, subst, arith}
 use Rattle.std.proofs.lemmas.List.{take_all}
-use Rattle.names.specs.Paths.{leaf, parent}
-use Rattle.walk.proofs.Climbs.{Standing, standing_start, turn_refused, turn_end, turn_up, turn_some}
+use Rattle.walk.proofs.Climbs.{standing_start, turn_refused, turn_end, turn_up, turn_some}
 use Rattle.walk.proofs.walk.child_behind.Goals as goal
 
 pub loop-n-init : goal.loop-n-init

@@ -1,6 +1,5 @@
-use Rattle.std.proofs.Common.{◌≡◌, length, take, get_or, sym, ap, ◌∙◌, subst, arith}
+use Rattle.std.proofs.Common.{◌≡◌, length, take, get_or, ap, ◌∙◌}
 use Rattle.names.specs.Paths.{parent}
-use Rattle.tree.specs.Places.{Bytes}
 use Rattle.loader.proofs.Trails.{parent_front, parent_slash}
 use Rattle.loader.proofs.trail.Trail.leave.Goals as goal
 use Rattle.loader.proofs.trail.Trail.leave.Goals.{After-truncate}
