@@ -1,4 +1,5 @@
 // Builds blobs for the tests, token by token.
+use blob::types::Tag;
 use reader::read::read;
 use std::alloc::{AllocError, Global};
 
@@ -43,7 +44,7 @@ fn put_padded(out: &mut Vec<u8>, bytes: &[u8]) -> Result<(), AllocError> {
 }
 
 fn put_name(out: &mut Vec<u8>, name: &[u8]) -> Result<(), AllocError> {
-    put32(out, 1)?;
+    put32(out, Tag::Begin as u32)?;
     out.extend_from_slice(name)?;
     let zeros = [0; 4];
     out.extend_from_slice(&zeros[0..4 - name.len() % 4])
@@ -58,7 +59,11 @@ impl Blocks {
     }
 
     fn property(&mut self, name: &[u8], value: &[u8]) -> Result<(), AllocError> {
-        let numbers = [3, size32(value.len()), size32(self.strings.len())];
+        let numbers = [
+            Tag::Property as u32,
+            size32(value.len()),
+            size32(self.strings.len()),
+        ];
         for n in numbers {
             put32(&mut self.structure, n)?;
         }
@@ -68,7 +73,7 @@ impl Blocks {
     }
 
     fn property_at(&mut self, offset: u32) -> Result<(), AllocError> {
-        for n in [3, 0, offset] {
+        for n in [Tag::Property as u32, 0, offset] {
             put32(&mut self.structure, n)?;
         }
         Ok(())
@@ -77,11 +82,11 @@ impl Blocks {
     fn add(&mut self, part: Part) -> Result<(), AllocError> {
         match part {
             Part::Begin(name) => put_name(&mut self.structure, name),
-            Part::End => put32(&mut self.structure, 2),
+            Part::End => put32(&mut self.structure, Tag::End as u32),
             Part::Property(name, value) => self.property(name, value),
             Part::PropertyAt(offset) => self.property_at(offset),
-            Part::Skipped => put32(&mut self.structure, 4),
-            Part::Finish => put32(&mut self.structure, 9),
+            Part::Skipped => put32(&mut self.structure, Tag::Nop as u32),
+            Part::Finish => put32(&mut self.structure, Tag::Finish as u32),
             Part::Number(n) => put32(&mut self.structure, n),
             Part::Text(bytes) => self.strings.extend_from_slice(bytes),
         }
