@@ -21,12 +21,12 @@ pub record Named (bs : Bytes) (base : ℕ) (was is : List ℕ) (names : List Byt
 abbrev pub from : Reader → List Open → ℕ → Result Counts Refusal
 from r gs p = verdict gs r.counts (tokens_from r.blob.bytes.now r.blob.layout p)
 
--- what was left to read of the blob b from p on, in some open nodes, has the same verdict as what is left, or the verdict is the refusal
+-- a part of the blob b was read, from p on: what was left before has the verdict of what is left behind it, or is so refused
 abbrev pub Went : (List Open → Result Counts Refusal) → Blob → Reader → ℕ → (List Open → List Open) → Type 0 → Result ℕ Refusal → Type 0
 Went was b is p after P (Ok next) = (p + 4 ≤ next) × (next ≤ b.layout.end) × (is.blob ≡ b) × P × ((gs : List Open) → was gs ≡ from is (after gs) next)
 Went was b is p after P (Err e) = (gs : List Open) → was gs ≡ Err e
 
--- the reading went on from p in the open node g
+-- a part was read from p on, in the open node g
 abbrev pub Passed : Reader → Reader → ℕ → Open → (List Open → List Open) → Type 0 → Result ℕ Refusal → Type 0
 Passed was is p g after P r = Went (λ gs. from was (g ∷ gs) p) was.blob is p after P r
 
