@@ -199,3 +199,7 @@ left x (m ∷ ms) h n p v =
       nodes = cond-false (eqb x.nodes 0) [] (read x) e ∙ same;
       intact = cond-false (eqb x.nodes 0) true (holds x (read x)) e ∙ ap (holds x) same ∙ all;
     }
+
+-- an open region is intact
+pub open-intact : (x : Region) → Open x → intact x ≡ true
+open-intact x o = (left x (nodes_of x) o.holding o.nodes o.properties o.valid).intact

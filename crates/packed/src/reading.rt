@@ -33,6 +33,7 @@ pub struct Run {
 }
 
 impl Packed<'_> {
+    // Where a node's begin token is, behind the end tokens at its spot.
     pub fn begin(&self, s: Spot) -> Begin
         requires { Here (nodes_of self.now.region) (spot_of (nodes_of self.now.region)) s }
         ensures depth { result.depth ≡ (nth (nodes_of self.now.region) s.node).depth }
@@ -40,6 +41,7 @@ impl Packed<'_> {
     {
         let mut at = s.at;
         let mut depth = s.property;
+        // A loop on places: no plainer as a chain over chunks, since the place itself is answered.
         while be32_at(self.region.bytes, at) == Tag::End as u32 {
             at += 4;
             depth -= 1;
@@ -79,6 +81,7 @@ impl Packed<'_> {
     {
         let mut at = from;
         let mut count = 0;
+        // A loop on places: how far each step goes is read there.
         while be32_at(self.region.bytes, at) == Tag::Property as u32 {
             let n = be32_at(self.region.bytes, at + 4) as usize;
             at += 12 + rounded4(n);
