@@ -13,7 +13,7 @@ use Rattle.tree.specs.Trees.{Places}
 use Rattle.tree.proofs.Maps.{find-below}
 use Rattle.tree.proofs.Places.{place-order}
 use Rattle.store.specs.Calls.{Meaning, closed, holds, Good}
-use Rattle.walk.specs.Walks.{behind, beyond, next_node, first_path}
+use Rattle.walk.specs.Walks.{behind, beyond, next_node}
 use Rattle.walk.proofs.Behind.{less-is, not-less, behind-here, behind-past}
 use Rattle.walk.proofs.Loops.{step, no_step, beyond-all}
 use Rattle.walk.proofs.Orders.{less-paths, paths-less, paths-same, equal_less, never_less}

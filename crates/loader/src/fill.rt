@@ -41,8 +41,8 @@ fn fill_rest<S: Store>(store: &mut S, tokens: &mut Tokens<'_>) -> Result<(), Ref
     Ok(())
 }
 
-// Fills a store that holds the root alone with what the tokens of a blob list. In any case its writes are theirs behind the
-// first, up to one that is refused, whose refusal it answers.
+// Fills a store that holds the root alone with what the tokens of a blob list. Whatever the tokens and the store are, it
+// makes the writes of all tokens but the first, up to one that is refused, and answers that refusal.
 pub fn fill<S: Store>(store: &mut S, tokens: &mut Tokens<'_>) -> Result<(), Refusal>
     ensures loads { Loads (ahead tokens.old.blob.bytes.now tokens.old.blob.layout tokens.old.next) (S.Readable.meaning store.old) result (S.Readable.meaning store.new) }
     ensures writes { (result, S.Readable.meaning store.new) ≡ run (drop 1 (ahead tokens.old.blob.bytes.now tokens.old.blob.layout tokens.old.next)) root (S.Readable.meaning store.old) }

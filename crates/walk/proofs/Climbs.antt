@@ -128,20 +128,12 @@ by-none (Err e) h = let z : ◌≡◌ {A = ℕ} 0 1 = cc in absurd (omega arith)
 by-none (Ok None) h = refl
 by-none (Ok (Some v)) h = let z : ◌≡◌ {A = ℕ} 0 1 = cc in absurd (omega arith)
 
-pub by_err : (X : Result (Option Bytes) Refusal) (e : Refusal) → Err e ≡ length_of X → X ≡ Err e
-by_err (Err d) e h = let z : d ≡ e = cc in ap Err z
-by_err (Ok None) e h = let z : ◌≡◌ {A = ℕ} 0 1 = cc in absurd (omega arith)
-by_err (Ok (Some v)) e h = let z : ◌≡◌ {A = ℕ} 0 1 = cc in absurd (omega arith)
-
 text_standing : (M : Meaning) (p r a : Bytes) → Good M → Standing M p r a → path_text r ≡ true
 text_standing closed p r a g h = absurd h
 text_standing (holds t) p r a g h = g.named (node_at r) [] h.0
 
 -- one turn of the climb from the node at p: r is open, and the children up to a are behind
 module _ (M : Meaning) (p r a : Bytes) (g : Good M) (st : Stands M p) (h : Standing M p r a) (begins : take (length r) p ≡ r) (x : Result (Option ℕ) Refusal) (said : x ≡ length_of (next_child M r a 63)) where
-  pub turn_refused : (e : Refusal) → x ≡ Err e → ⊥
-  turn_refused e saw = never-refused M p r a e g h (by_err (next_child M r a 63) e (sym saw ∙ said))
-
   pub turn_end : x ≡ Ok None → length r ≤ 1 → next_node M p 256 ≡ Ok None
   turn_end saw e = found-end M p r a 256 g st (omega arith) h (by-none (next_child M r a 63) (sym saw ∙ said)) e
 

@@ -6,7 +6,6 @@ pub mod Runs
 pub mod Least
 pub mod Marks
 pub mod Turns
-pub mod Buffers
 pub mod Climbs
 pub mod Starts
 pub mod Loops

@@ -49,7 +49,7 @@ fn leaf_of(path: &[u8]) -> &[u8]
     &path[leaf_start(path)..]
 }
 
-// A child of a node around another: how much of that one's path its own begins with, and its name.
+// A child of a node on a path: how many bytes of the path stand before the child's slash, and the child's name.
 #[derive(Drop)]
 struct Child {
     stem: usize,

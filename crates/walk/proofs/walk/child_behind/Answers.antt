@@ -1,6 +1,6 @@
 use Rattle.std.proofs.Common.{◌<◌, length, take, Ok, sym, ap, ◌∙◌, subst, arith}
 use Rattle.std.proofs.lemmas.List.{take_all}
-use Rattle.walk.proofs.Climbs.{standing_start, turn_refused, turn_end, turn_up, turn_some}
+use Rattle.walk.proofs.Climbs.{standing_start, turn_end, turn_up, turn_some}
 use Rattle.walk.proofs.walk.child_behind.Goals as goal
 
 pub loop-n-init : goal.loop-n-init
@@ -8,10 +8,6 @@ loop-n-init g c = record {
   stands = standing_start (g.R.Readable.meaning c.args.tree.now) c.args.path.now (g.R.Readable.good c.args.tree.now) c.requires;
   front = take_all (length c.args.path.now) c.args.path.now (omega arith);
 }
-
-pub returns-in_err-n : goal.returns-in_err-n
-returns-in_err-n g c =
-    absurd (turn_refused (g.R.Readable.meaning c.args.tree.now) c.args.path.now c.loop-n.open.now c.loop-n.after.now (g.R.Readable.good c.args.tree.now) c.requires c.loop-n.invariant.stands c.loop-n.invariant.front c.next_child.result c.next_child.ensures.answer c.in_err-n.field-0.0 c.in_err-n.was)
 
 pub returns-in-Some : goal.returns-in-Some
 returns-in-Some g c =
