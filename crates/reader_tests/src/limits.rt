@@ -12,15 +12,26 @@ fn name_of(i: usize) -> [u8; 3] {
     [a, b, c]
 }
 
-// A root with so many children.
-fn children(heap: Global, n: usize) -> Result<Verdict, AllocError> {
+// A root with what `add` puts into it for each of so many names.
+fn numbered<F: Fn(&mut Blocks, &[u8]) -> Result<(), AllocError>>(
+    heap: Global,
+    n: usize,
+    add: F,
+) -> Result<Verdict, AllocError>
+    requires { F.IsAlwaysCallable add }
+{
     let mut blocks = Blocks::new(heap);
     blocks.all(&[Begin(b"")])?;
     for i in 0..n {
-        blocks.all(&[Begin(&name_of(i)), End])?;
+        add(&mut blocks, &name_of(i))?;
     }
     blocks.all(&[End, Finish])?;
     Ok(verdict(blocks.blob(heap)?.as_slice()))
+}
+
+// A root with so many children.
+fn children(heap: Global, n: usize) -> Result<Verdict, AllocError> {
+    numbered(heap, n, |blocks, name| blocks.all(&[Begin(name), End]))
 }
 
 #[test]
@@ -32,13 +43,7 @@ fn nodes(rt: HostRuntime) -> Result<(), Fail> {
 
 // A root with so many properties.
 fn properties_of(heap: Global, n: usize) -> Result<Verdict, AllocError> {
-    let mut blocks = Blocks::new(heap);
-    blocks.all(&[Begin(b"")])?;
-    for i in 0..n {
-        blocks.all(&[Property(&name_of(i), b"")])?;
-    }
-    blocks.all(&[End, Finish])?;
-    Ok(verdict(blocks.blob(heap)?.as_slice()))
+    numbered(heap, n, |blocks, name| blocks.all(&[Property(name, b"")]))
 }
 
 #[test]
