@@ -30,7 +30,7 @@ fn ranked(b: u8) -> u16
     if b == SLASH { 0 } else { u16::from(b) + 1 }
 }
 
-// Where the last name begins: behind the last slash.
+// Where the last name begins: behind the last slash. The `match` is as short as a `map_or`.
 pub fn leaf_start(path: &[u8]) -> usize
     ensures within { result ≤ length path.now }
     ensures value { drop result path.now ≡ leaf path.now }

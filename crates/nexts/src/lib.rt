@@ -11,14 +11,11 @@ ghost use Rattle.tape.specs.Tapes.{Here, shown};
 ghost use Rattle.nexts.specs.Kids.{Held, LeastAt, better, shown_name};
 
 use names::names::{is_node_name, is_property_name};
-use store::Refusal;
+use store::{NAME_ROOM, Refusal};
 use tape::iters::{children_of, properties_of};
 use tape::questions::put_front;
 use tape::search::open_node;
 use tape::{Spot, Tape};
-
-// What a name's buffer has to hold.
-const NAME_BUFFER: usize = 63;
 
 // The parts of a node that are gone over by their names: a name's rule, and the names that a place gives.
 trait Parts {
@@ -112,7 +109,7 @@ fn find_next<'a, K: Parts, T: Tape>(
     let Some(at) = open_node(t, path, may_follow::<K>(after))? else {
         return Err(Refusal::Absent);
     };
-    if room < NAME_BUFFER {
+    if room < NAME_ROOM {
         return Err(Refusal::Short);
     }
     Ok(K::least(t, at, after))

@@ -6,6 +6,9 @@ ghost use Rattle.store.specs.Calls.{Meaning, Good, has_node, value_at, length_of
 ghost use Rattle.store.specs.Laws.{StoreLaws};
 ghost use Rattle.tree.specs.Places.{node_at, property_at};
 
+// The longest name, and so what a buffer for names has to hold.
+pub const NAME_ROOM: usize = 63;
+
 // Why a call is refused.
 #[derive(Clone, Copy, PartialEq, Eq, Debug)]
 pub enum Refusal {

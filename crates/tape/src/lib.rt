@@ -40,7 +40,8 @@ pub struct Head {
     pub next: Spot,
 }
 
-// A list of nodes in memory, with its tree's boot CPU number. Without nodes it is closed.
+// A list of nodes in memory, with its tree's boot CPU number. Without nodes it is closed. That a spot or a mark is a node's or
+// a property's is asked of each call, since a type that carried it would borrow the tape, and no write could be made by it.
 pub trait Tape {
     ghost nodes: { Self → List Node };
 

@@ -10,7 +10,7 @@ use names::names::find;
 use names::paths::{SLASH, is_path};
 use store::Refusal;
 
-// The child so named of the node at `from`.
+// The child so named of the node at `from`. The search for a property is alike, and what both share is the library's `find`.
 fn find_child<T: Tape>(t: &T, from: Spot, name: &[u8]) -> Option<Spot>
     requires { Here (T.Tape.nodes t.now) (T.Tape.spot t.now) from }
     ensures { result ≡ placed (T.Tape.spot t.now) (from.node + 1) (child_in (nth (T.Tape.nodes t.now) from.node).depth name.now (drop (from.node + 1) (T.Tape.nodes t.now))) }

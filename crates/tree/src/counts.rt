@@ -22,7 +22,7 @@ pub struct Counts {
     pub weight: usize,
 }
 
-// What a node weighs whose name has so many bytes.
+// What a node weighs whose name has so many bytes. The bound is no type, since a narrower number would ask a cast of each caller.
 pub fn node_weight(name: usize) -> usize
     requires { name < 2 ^ 32 }
     ensures { result ≡ node_weight name }

@@ -8,14 +8,11 @@ ghost use Rattle.walk.specs.Walks.{next_node};
 
 use arrayvec::ArrayVec;
 use names::paths::{SLASH, leaf_start, parent_of};
-use store::{Readable, Refusal};
+use store::{NAME_ROOM, Readable, Refusal};
 use tree::counts::MAX_PATH;
 
 // The longest path, and one byte more.
 pub const PATH_ROOM: usize = MAX_PATH + 1;
-
-// The longest name.
-pub const NAME_ROOM: usize = 63;
 
 // The places of a tree come in document order: below a node its properties, then its children with all below them.
 pub fn order_stands()

@@ -13,15 +13,15 @@ returns-in_default-clause-name g c =
     let e = c.in_ok-at.ensures in
     sym (next-absent g.K.Parts.rule g.K.Parts.on boot ns e.opened path c.args.after.now e.path (sym c.may_follow.ensures ∙ e.named) c.args.room (look_missing boot ns (g.T.Tape.sound t) path e.path (strayed e c.in_default.is) None))
 
-pub returns-then-room-lt-NAME_BUFFER-clause-name : goal.returns-then-room-lt-NAME_BUFFER-clause-name
-returns-then-room-lt-NAME_BUFFER-clause-name g c =
+pub returns-then-room-lt-NAME_ROOM-clause-name : goal.returns-then-room-lt-NAME_ROOM-clause-name
+returns-then-room-lt-NAME_ROOM-clause-name g c =
     let t = c.args.t.now in
     let ns = g.T.Tape.nodes t in
     let boot = g.T.Tape.boot t in
     let path = c.args.path.now in
     let e = c.in_ok-at.ensures in
     let f = arrived_at e c.in-Some.at c.in-Some.is in
-    sym (next-short g.K.Parts.rule g.K.Parts.on boot ns e.opened path c.args.after.now e.path (sym c.may_follow.ensures ∙ e.named) c.args.room (look-node boot ns (g.T.Tape.sound t) path e.path _ f.0.inside f.1) c.if-room-lt-NAME_BUFFER.true)
+    sym (next-short g.K.Parts.rule g.K.Parts.on boot ns e.opened path c.args.after.now e.path (sym c.may_follow.ensures ∙ e.named) c.args.room (look-node boot ns (g.T.Tape.sound t) path e.path _ f.0.inside f.1) c.if-room-lt-NAME_ROOM.true)
 
 pub returns : goal.returns
 returns g c =
@@ -33,6 +33,6 @@ returns g c =
     let f = arrived_at e c.in-Some.at c.in-Some.is in
     let l = c.least.ensures path e.path f.1 in
     record {
-      name = shown_ok c.least.result ∙ sym (next-is g.K.Parts.rule g.K.Parts.on boot ns e.opened path c.args.after.now e.path (sym c.may_follow.ensures ∙ e.named) c.args.room (look-node boot ns (g.T.Tape.sound t) path e.path _ f.0.inside f.1) c.if-room-lt-NAME_BUFFER.false (shown_name c.least.result) l.0);
-      held = held_by c.least.result c.args.room (λ x z. let a = l.1 x z in let low = c.if-room-lt-NAME_BUFFER.false in omega arith);
+      name = shown_ok c.least.result ∙ sym (next-is g.K.Parts.rule g.K.Parts.on boot ns e.opened path c.args.after.now e.path (sym c.may_follow.ensures ∙ e.named) c.args.room (look-node boot ns (g.T.Tape.sound t) path e.path _ f.0.inside f.1) c.if-room-lt-NAME_ROOM.false (shown_name c.least.result) l.0);
+      held = held_by c.least.result c.args.room (λ x z. let a = l.1 x z in let low = c.if-room-lt-NAME_ROOM.false in omega arith);
     }
