@@ -89,7 +89,7 @@ def travelling():
 SEARCHES = [
     ("1 functions that only name a theorem and answer a number", lambda: lines(r"^pub fn \w+\(\) -> u8$")),
     ("1 a bool that says whether a change was made", bool_for_change),
-    ("1 numbers for kinds of tokens", lambda: lines(r"^const (BEGIN|END|PROPERTY|NOP|FINISH): u32|put32\(.*, [0-9]\)")),
+    ("1 numbers for kinds of tokens", lambda: lines(r"^const (BEGIN|END|PROPERTY|NOP|FINISH): u32|(put|append)32\((xs, used|out|&mut self.structure), [0-9]\)")),
     ("1 verdicts and kinds as numbers in tests", lambda: lines(r"(-> .*|Option<)\(u32, usize")),
     ("1 flags beside values", lambda: lines(r"^ *(pub(\(crate\))? )?\w+: bool,|let mut \w+ = (true|false);")),
     ("2 constants that stand in two files", same_constants),
@@ -99,7 +99,7 @@ SEARCHES = [
     ("4 matches that only map an Option or a Result", lambda: lines(r"None => (Ok\((None|false|true)\)|None|false|true|0),|Err\(e\) => (Err|Some)\(e\)|(None|Err\(_\)) => (return )?Err\(")),
     ("4 order by hand", lambda: lines(r"Ordering::\w+( \| Ordering::\w+)? =>")),
     ("4 equality by hand", lambda: lines(r"Class::\w+( \| Class::\w+)? => (true|false)|^    a == b$")),
-    ("4 narrowing casts", lambda: lines(r" as u(8|16|32)\b")),
+    ("4 narrowing casts of numbers", lambda: lines(r"(?<!Tag::Begin)(?<!Tag::Property)(?<!Tag::End)(?<!Tag::Nop)(?<!Tag::Finish) as u(8|16|32)\b")),
     ("4 printing by hand", lambda: lines(r"fn (push_hex|push_shown|digit)\b")),
     ("5 facts that three or more functions require", repeated_clauses),
     ("5 parameters that travel together", travelling),

@@ -14,10 +14,10 @@ use tree::counts::Counts;
 pub struct Flat<'a> {
     pub(crate) blob: Blob<'a>,
     pub(crate) counts: Counts,
-    ghost laid: { header blob.bytes.now ≡ Ok blob.layout },
-    ghost tally: { Tally counts (entries_of blob.bytes.now blob.layout) },
-    ghost listed: { well_listed (entries_of blob.bytes.now blob.layout) ≡ true },
-    ghost named: { named_tokens (until (tokens_of blob.bytes.now blob.layout)) ≡ true },
+    pub ghost laid: { header blob.bytes.now ≡ Ok blob.layout },
+    pub ghost tally: { Tally counts (entries_of blob.bytes.now blob.layout) },
+    pub ghost listed: { well_listed (entries_of blob.bytes.now blob.layout) ≡ true },
+    pub ghost named: { named_tokens (until (tokens_of blob.bytes.now blob.layout)) ≡ true },
 }
 
 impl<'a> Flat<'a> {

@@ -37,7 +37,6 @@ impl Seen {
 
     // Is the name among those from `base` on?
     pub(crate) fn has(&self, bytes: &[u8], base: usize, name: &[u8]) -> bool
-        requires { base ≤ array_vec_len self.now.at }
         ensures { result ≡ list_any (λ o. begins name.now (drop o bytes.now)) (drop base self.now.at.items) }
     {
         self.at
