@@ -132,7 +132,7 @@ fn copy_next<K: Parts, T: Tape>(
     Ok(Some(name.len()))
 }
 
-// Copies the next child name after a given one.
+// Copies the next child name after a given one. It and the next one are the calls of a readable tree.
 pub fn next_child<T: Tape>(
     t: &T,
     path: &[u8],

@@ -42,6 +42,7 @@ impl Packed<'_> {
         let mut at = s.at;
         let mut depth = s.property;
         // A loop on places: no plainer as a chain over chunks, since the place itself is answered.
+        // The tokens say how far it goes, and no index is counted.
         while be32_at(self.region.bytes, at) == Tag::End as u32 {
             at += 4;
             depth -= 1;
@@ -82,6 +83,7 @@ impl Packed<'_> {
         let mut at = from;
         let mut count = 0;
         // A loop on places: how far each step goes is read there.
+        // Each token says where the next one is.
         while be32_at(self.region.bytes, at) == Tag::Property as u32 {
             let n = be32_at(self.region.bytes, at + 4) as usize;
             at += 12 + rounded4(n);

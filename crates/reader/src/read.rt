@@ -93,6 +93,7 @@ impl<'a> Reader<'a> {
         let base = self.seen.at.len();
         let mut p = start;
         let mut children = false;
+        // Each token says where the next one is.
         loop {
             let step = self.blob.token_at(p).ok_or(Refusal::Token(p))?;
             match step.token {
@@ -130,6 +131,7 @@ impl<'a> Reader<'a> {
         ensures { result ≡ from self.old [] self.old.blob.layout.start }
     {
         let mut p = self.blob.layout.start;
+        // Each token says where the next one is.
         loop {
             let step = self.blob.token_at(p).ok_or(Refusal::Token(p))?;
             match step.token {

@@ -1,4 +1,5 @@
-// Elements put into the used part of a slice, or taken out of it.
+// Elements put into the used part of a slice, or taken out of it. The memory is lent, so the length of the used part stands
+// beside it; `lent::Lent` holds both.
 #![tactic(auto)]
 
 ghost use Rattle.std.specs.Prelude.{◌≡◌, ◌+◌, ◌-◌, ◌≤◌, length, take};

@@ -64,6 +64,7 @@ impl<'a, T: Tape> Iterator for Children<'a, T> {
     ghost remaining = { item_count (children_left T.Tape.nodes T.Tape.spot) };
 
     fn next(&mut self) -> Option<(Spot, &'a [u8])> {
+        // Past what is below the children; each node says where the next one is.
         while self.at.node < self.count {
             let at = self.at;
             let head = self.tape.head(at);

@@ -42,6 +42,7 @@ pub fn find_node<T: Tape>(t: &T, path: &[u8]) -> Option<Spot>
         return Some(at);
     }
     let mut rest = &path[1..];
+    // A `for` over the names by `split` was tried: in a generic function it gets no proof.
     loop {
         let n = find(rest, SLASH);
         let Some(s) = find_child(t, at, &rest[..n]) else {

@@ -60,6 +60,7 @@ fn child_behind<R: Readable>(tree: &R, path: &[u8]) -> Result<Option<Child>, Ref
 {
     let mut open = path;
     let mut after: &[u8] = b"";
+    // Up from parent to parent, until one has a child behind.
     loop {
         let mut name = [0u8; NAME_ROOM];
         if let Some(n) = tree.next_child(open, after, &mut name)? {
