@@ -28,7 +28,8 @@ pub enum Refusal {
     Closed,
 }
 
-// A tree that answers questions. They change nothing; a refused one leaves the buffer as it was.
+// A tree that answers questions. They change nothing; a refused one leaves the buffer as it was. Paths, names and buffers come one
+// by one, as the bytes that a caller has: a type that held a path with a name would have to be made for each call.
 pub trait Readable {
     ghost meaning: { Self → Meaning };
 

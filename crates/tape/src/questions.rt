@@ -1,4 +1,4 @@
-// The questions of a readable tree, on any tape.
+// The questions of a readable tree, on any tape, with the arguments of its calls.
 ghost use Rattle.std.specs.Prelude.{◌≡◌, ◌≤◌, length};
 ghost use Rattle.store.specs.Calls.{has_node, value_at, length_of, copied, filled, over, boot_of};
 ghost use Rattle.tape.specs.Nodes.{meaning_of};

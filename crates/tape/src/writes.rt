@@ -1,4 +1,4 @@
-// The writes of a store, on any tape.
+// The writes of a store, on any tape, with the arguments of its calls.
 ghost use Rattle.std.specs.Prelude.{◌≡◌, [], Some, None};
 ghost use Rattle.store.specs.Calls.{add_node, drop_node, set_property, drop_property, changed, settled};
 ghost use Rattle.tape.specs.Nodes.{meaning_of};
