@@ -85,10 +85,10 @@ fn climb<R: Readable>(tree: &R, path: &mut [u8], at: usize) -> Result<Option<usi
     ensures answer { result ≡ length_of (next_node (R.Readable.meaning tree.now) (take at path.old) (length path.old)) }
     ensures buffer { path.new ≡ named (next_node (R.Readable.meaning tree.now) (take at path.old) (length path.old)) path.old }
 {
-    match child_behind(tree, &path[..at])? {
-        Some(child) => Ok(Some(join(path, child.stem, &child.name))),
-        None => Ok(None),
-    }
+    let Some(child) = child_behind(tree, &path[..at])? else {
+        return Ok(None);
+    };
+    Ok(Some(join(path, child.stem, &child.name)))
 }
 
 // The root, which comes first.
