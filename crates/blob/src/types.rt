@@ -1,5 +1,5 @@
 // What a reader of blobs answers.
-ghost use Rattle.std.specs.Prelude.{◌≡◌, Some};
+ghost use Rattle.std.specs.Prelude.{◌≡◌, Some, IfErr};
 ghost use Rattle.std.specs.Result.{result_ok};
 ghost use Rattle.blob.specs.Tags.{tag_of};
 ghost use Rattle.blob.specs.Refusals.{number_of, place_of, words_of};
@@ -85,7 +85,7 @@ pub struct UnknownTag(pub u32);
 impl TryFrom<u32> for Tag {
     type Error = UnknownTag;
 
-    ghost try_from_gives = { λ n r. result_ok r ≡ tag_of n };
+    ghost try_from_gives = { λ n r. (result_ok r ≡ tag_of n) × IfErr r (λ e. e.0 ≡ n) };
 
     fn try_from(number: u32) -> Result<Tag, UnknownTag> {
         match number {

@@ -4,7 +4,8 @@ use Rattle.std.specs.declared.cmp.Ordering.{Ordering}
 use Rattle.std.specs.declared.alloc.Global.{Global}
 use Rattle.std.specs.Cmp.{IsTotalOrder}
 use Rattle.std.specs.Option.{option_map}
-use Rattle.std.proofs.Common.{Bor, ap}
+use Rattle.std.specs.Borrow.{Bor}
+use Rattle.std.proofs.Common.{ap}
 use Rattle.reader.specs.Format.{Spelt}
 use Rattle.reader.specs.Reading.{entries}
 use Rattle.tree.specs.Entries.{listed}

@@ -54,7 +54,7 @@ fn push_rows(out: &mut Vec<u8>, rows: &Sorted) -> Result<(), AllocError>
     Ok(())
 }
 
-// The first line of a blob that is accepted. The allocator stands beside the file's name, as beside all that std makes.
+// The first line of a blob that is accepted. It allocates, so it takes an allocator beside the file's name.
 fn good_line(heap: Global, file: &str, boot: u32, counts: Counts) -> Result<Vec<u8>, AllocError>
     ensures { IfOk result (λ v. v.items ≡ good_line file.now boot counts.nodes counts.properties counts.weight) }
 {

@@ -10,7 +10,7 @@ use crate::memory::{Memory, NodeRecord, PropertyRecord};
 use tape::{Head, Mark, Spot, Tape};
 use tree::counts::{Counts, node_weight, property_weight};
 
-// A tree in lent memory: its records and pool are those of its nodes, and have room for every tree within the limits.
+// A tree in lent memory: its records and pool are those of its nodes, and, once it is open, have room for every tree within the limits.
 pub struct Live<'a> {
     memory: Memory<'a>,
     ghost rows: { flat_rows (rows_of (held memory)) ≡ flat_rows (used_rows memory) },

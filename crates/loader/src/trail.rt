@@ -10,7 +10,7 @@ use std::marker::Model;
 use store::Refusal;
 use tree::counts::MAX_PATH;
 
-// It begins with a slash.
+// The path begins with a slash.
 #[derive(Drop)]
 pub struct Trail {
     path: ArrayVec<u8, MAX_PATH>,

@@ -55,7 +55,7 @@ impl Alphabet for OfProperties {
     }
 }
 
-// How many bytes of the alphabet `s` begins with. Two bytes a turn: most of a reader's time on names is spent here.
+// How many bytes of the alphabet `s` begins with.
 fn run<A: Alphabet>(s: &[u8]) -> usize
     ensures within { result ≤ length s.now }
     ensures value { result ≡ prefix_len A.Alphabet.holds s.now }

@@ -1,4 +1,4 @@
-// Tokens and strings written behind the used bytes of lent ones.
+// Tokens and strings written behind the used part of lent bytes.
 ghost use Rattle.std.specs.Prelude.{◌≡◌, ◌+◌, ◌≤◌, [], ◌∷◌, ◌++◌, length, take, replicate};
 ghost use Rattle.blob.specs.Tokens.{begin, property};
 ghost use Rattle.packed.specs.Headers.{Resized};

@@ -16,7 +16,7 @@ pub struct Tokens<'a> {
 
 impl<'a> Tokens<'a> {
     // The next item, or nothing where the end of the block, or a fault, has been reached.
-    // `next` promises no less; it stays beside it since its clauses have names, which callers' proofs cite.
+    // `next` promises as much; the clauses of this one have names, which callers' proofs cite.
     pub fn advance(&mut self) -> Option<Item<'a>>
         ensures hands { Handed result (ahead self.old.blob.bytes.now self.old.blob.layout self.old.next) (ahead self.new.blob.bytes.now self.new.blob.layout self.new.next) }
         ensures blob { self.new.blob ≡ self.old.blob }
@@ -29,7 +29,7 @@ impl<'a> Tokens<'a> {
                 Token::Begin { name } => return Some(Item::Begin { at, name }),
                 Token::Property { name, value } => return Some(Item::Property { at, name, value }),
                 Token::End => return Some(Item::End { at }),
-                // Nothing is found behind an end token.
+                // Nothing is found behind the last mark of the block.
                 Token::Nop | Token::Finish => {}
             }
         }

@@ -1,4 +1,4 @@
-// Numbers of blobs.
+// Rounding, as blobs pad.
 ghost use Rattle.std.specs.Prelude.{◌≡◌, ◌+◌, ◌^◌, ◌<◌};
 ghost use Rattle.tree.specs.Numbers.{pad4};
 

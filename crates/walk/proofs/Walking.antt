@@ -68,7 +68,7 @@ turn_to M N p q o x g e h s =
     record { is = is; same = sym y.1; reached = reached M p q 256 g is }
 
 pub turn_none : (M N : Meaning) (p q : Bytes) (o : Option (ArrayVec ℕ)) → N ≡ M → Gives N p (Ok o) q → o ≡ None → next_node M p 256 ≡ Ok None
-turn_none M N p q o e h s = subst (λ z. Gives M p (Ok z) q) s (subst (λ z. Gives z p (Ok o) q) e h)
+turn_none M N p q o e h s = (subst (λ z. Gives M p (Ok z) q) s (subst (λ z. Gives z p (Ok o) q) e h)).0
 
 pub ok_one : {A E : Type 0} {x y : A} → ◌≡◌ {A = Result A E} (Ok x) (Ok y) → x ≡ y
 ok_one e = cc
