@@ -29,12 +29,6 @@ returns-in_err-m-clause-answer g c =
     let said : c.from_residual-in_err-m.result ≡ Err Absent = search rules in
     said ∙ unset-none (g.T.Tape.boot t) ns (g.T.Tape.sound t) e.opened c.args.path.now e.path c.args.name.now (sym c.is_property_name.ensures ∙ e.named) c.in-Some.at.node f.0.inside f.1 gone
 
-pub remove_property-requires-clause-on : goal.remove_property-requires-clause-on
-remove_property-requires-clause-on g c =
-    let t = c.args.t.now in
-    let own = subst (Owned (g.T.Tape.nodes t) (g.T.Tape.mark t) c.in-Some.at.node c.args.name.now) c.in_ok-m.ensures.ok_part c.find_property.ensures.owned in
-    (own.0, own.1)
-
 pub remove_property-requires-clause-sound : goal.remove_property-requires-clause-sound
 remove_property-requires-clause-sound g c =
     let t = c.args.t.now in
