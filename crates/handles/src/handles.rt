@@ -19,6 +19,7 @@ fn phandle_at<R: Readable>(tree: &R, path: &[u8]) -> Result<Option<u32>, Refusal
     if tree.value_len(path, name)?.is_none() {
         return Ok(None);
     }
+    // Lent to the call, which fills its front.
     let mut value = [0u8; MAX_VALUE];
     tree.copy_value(path, name, &mut value)?;
     Ok(Some(be32_at(&value, 0)))

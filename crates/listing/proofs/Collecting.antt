@@ -1,13 +1,12 @@
 -- Steps of the loop that makes a row of each node and property.
-use Rattle.std.proofs.Common.{◌≡◌, ℕ, ◌<◌, Bool, cond, ltb, List, [], ◌∷◌, ◌++◌, map, reverse, length, is_some, IfOk, Some, None, Ok, Err, vec_items, Option, Result, Vec, sym, refl, ap, ◌∙◌, append_assoc, append-nil, arith, Bor}
+use Rattle.std.proofs.Common.{◌≡◌, ℕ, ◌<◌, ltb, List, [], ◌∷◌, ◌++◌, map, reverse, length, is_some, IfOk, Some, None, Ok, Err, vec_items, Option, Result, Vec, sym, refl, ap, ◌∙◌, append_assoc, append-nil, arith, Bor}
 use Rattle.std.specs.declared.alloc.Global.{Global}
 use Rattle.std.specs.Option.{option_to_list}
 use Rattle.std.specs.List.{AllZip}
 use Rattle.std.proofs.lemmas.Slice.Zip.{AllZip-map}
-use Rattle.std.specs.Str.{bytes_eq}
 use Rattle.std.proofs.lemmas.List.{map-append, map-id, reverse-append, length-reverse, length-map}
 use Rattle.std.proofs.lemmas.Bool.Decides.{nat_tests}
-use Rattle.names.specs.Paths.{root, child, stem}
+use Rattle.names.specs.Paths.{child, stem}
 use Rattle.tree.specs.Places.{Bytes, Place}
 use Rattle.tree.specs.Trees.{Places}
 use Rattle.tree.specs.Entries.{listed}
@@ -98,10 +97,6 @@ pub child_built :
     v₂ ≡ v₁ ++ name →
     v₂ ≡ child parent name
 child_built parent name v₀ v₁ v₂ p q r = r ∙ ap (λ (l : Bytes). l ++ name) q ∙ append_assoc v₀ (47 ∷ []) name ∙ ap (λ (l : Bytes). l ++ (47 ∷ name)) p
-
-pub stem_made : (b : Bool) (parent v : Bytes) → b ≡ bytes_eq parent root → v ≡ cond b [] parent → v ≡ stem parent
-unfolding stem
-stem_made b parent v e p = p ∙ ap (λ (c : Bool). cond c [] parent) e
 
 -- a row with this path behind the others
 pub row_more :

@@ -10,14 +10,12 @@ ghost use Rattle.tree.specs.Entries.{listed};
 ghost use Rattle.tree.specs.Places.{node_at, property_at};
 ghost use Rattle.listing.specs.Rows.{place_order, place_total, keyed, placed, held, with, arranged, stacked, told};
 
-use names::paths::compare_paths;
+use names::paths::{ROOT, SLASH, compare_paths, stem_len};
 use reader::cursor::Tokens;
 use reader::tokens::Item;
 use std::alloc::{AllocError, Global};
 use std::cmp::Ordering;
 use std::collections::BTreeMap;
-
-const ROOT: &[u8] = b"/";
 
 // A node, or a property of one, which then has a name.
 #[derive(Drop)]
@@ -26,7 +24,7 @@ pub struct Place<'a> {
     pub name: Option<&'a [u8]>,
 }
 
-// Document order: a node, its properties by name, then its children.
+// Document order: a node, its properties by name, then its children. No derive gives it, since a path is not compared by its bytes.
 impl<'a> Ord for Place<'a> {
     ghost cmp = { place_order };
 
@@ -99,10 +97,8 @@ fn child_path(heap: Global, parent: &[u8], name: &[u8]) -> Result<Vec<u8>, Alloc
     ensures { IfOk result (λ v. v.items ≡ child parent.now name.now) }
 {
     let mut path = Vec::new(heap);
-    if parent != ROOT {
-        path.extend_from_slice(parent)?;
-    }
-    path.push(b'/')?;
+    path.extend_from_slice(&parent[..stem_len(parent)])?;
+    path.push(SLASH)?;
     path.extend_from_slice(name)?;
     Ok(path)
 }
@@ -119,10 +115,7 @@ impl<'a> Collector<'a> {
     fn innermost(&self) -> &[u8]
         ensures { result.now ≡ top (stacked self.now.trail.items) }
     {
-        match self.trail.last() {
-            Some(path) => path.as_slice(),
-            None => ROOT,
-        }
+        self.trail.last().map_or(ROOT, |path| path.as_slice())
     }
 
     // The path of a node so named in the open ones; outside all of them it is the root.

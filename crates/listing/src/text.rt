@@ -39,7 +39,7 @@ pub fn is_text(value: &[u8]) -> bool
     *end == 0 && texts.split(|b| *b == 0).all(|text| is_printed(text))
 }
 
-// Appends a byte as it is shown between quotes.
+// Appends a byte as it is shown between quotes. It may be any byte, and `Debug` of a text takes UTF-8 alone.
 fn push_shown(out: &mut Vec<u8>, b: u8) -> Result<(), AllocError>
     ensures { Appended result out.old.items out.new.items (shown_byte b) }
 {

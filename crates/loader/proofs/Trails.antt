@@ -1,33 +1,14 @@
 -- Paths as a vector holds them. Assumes nothing.
-use Rattle.std.proofs.Common.{◌≡◌, ℕ, ◌+◌, ◌-◌, zero, suc, false, eqb, [], ◌∷◌, length, get_or, take, Ok, Err, Result, sym, refl, ap, ◌∙◌, ◌⊎◌, ⊎_elim, arith}
+use Rattle.std.proofs.Common.{◌≡◌, ℕ, ◌+◌, ◌-◌, zero, suc, false, eqb, [], ◌∷◌, length, get_or, take, Ok, Err, Result, sym, refl, ap, ◌∙◌, ⊎_elim, arith}
 use Rattle.std.proofs.lemmas.Bool.{cases_Bool, cond-true, cond-false, true≢false}
 use Rattle.std.specs.Result.{IsOk, OnOk, result_or}
-use Rattle.std.proofs.lemmas.List.{length-take-le, take_all}
-use Rattle.std.proofs.lemmas.Slice.Eq.{bytes_eq-Decides}
-use Rattle.names.specs.Paths.{root, stem, leaf, parent}
-use Rattle.names.proofs.PathLaws.{stem-other}
+use Rattle.std.proofs.lemmas.List.{length-take-le}
+use Rattle.names.specs.Paths.{root, leaf, parent}
 use Rattle.tree.specs.Places.{Bytes}
-
--- what stands before a further slash is the front of n bytes
-pub record Stem (p : Bytes) (n : ℕ) : Type 0 where
-  pub is : take n p ≡ stem p
-  pub long : length (stem p) ≡ n
 
 pub take_one : (p : Bytes) → get_or p 0 0 ≡ 47 → take 1 p ≡ root
 take_one [] e = let z : ◌≡◌ {A = ℕ} 0 47 = e in absurd (omega arith)
 take_one (x ∷ xs) e = ap (λ z. z ∷ []) e
-
-pub stem_front : (p : Bytes) (n : ℕ) → get_or p 0 0 ≡ 47 → ((length p ≡ 1) × (n ≡ 0)) ⊎ ((length p ≡ 1 → ⊥) × (n ≡ length p)) → Stem p n
-unfolding stem
-stem_front p n e =
-    ⊎_elim
-    (λ one.
-    let r : p ≡ root = sym (take_all 1 p (omega arith)) ∙ take_one p e in
-    let s : stem p ≡ [] = rw ((bytes_eq-Decides p root).1 r) in
-    record { is = ap (λ k. take k p) one.1 ∙ sym s; long = ap length s ∙ sym one.1 })
-    (λ more.
-    let s = stem-other p (λ r. more.0 (ap length r)) in
-    record { is = take_all n p (omega arith) ∙ sym s; long = ap length s ∙ sym more.1 })
 
 -- the parent is the front of as many bytes, and begins with a slash too
 pub parent_front : (p : Bytes) → get_or p 0 0 ≡ 47 → take (length (parent p)) p ≡ parent p

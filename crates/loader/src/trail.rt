@@ -5,7 +5,7 @@ ghost use Rattle.store.specs.Calls.{tested};
 ghost use Rattle.store.specs.declared.Refusal.TheVariants.{Limit};
 
 use arrayvec::ArrayVec;
-use names::paths::{SLASH, parent_of};
+use names::paths::{SLASH, parent_of, stem_len};
 use std::marker::Model;
 use store::Refusal;
 use tree::counts::MAX_PATH;
@@ -41,8 +41,7 @@ impl Trail {
         ensures answer { result ≡ tested ((nat_le (length (child self.old name.now)) 255, Limit) ∷ []) tt }
         ensures path { self.new ≡ cond (nat_le (length (child self.old name.now)) 255) (child self.old name.now) self.old }
     {
-        let len = self.path.len();
-        let stem = if len == 1 { 0 } else { len };
+        let stem = stem_len(&self.path);
         if name.len() >= MAX_PATH - stem {
             return Err(Refusal::Limit);
         }

@@ -1,5 +1,5 @@
 -- The classes of bytes. Assumes nothing.
-use Rattle.std.proofs.Common.{◌≡◌, ℕ, ◌<◌, Bool, true, false, cond, not, ◌||◌, List, length, get_or, refl, ap, ◌∙◌, arith}
+use Rattle.std.proofs.Common.{◌≡◌, ℕ, ◌<◌, Bool, true, false, cond, not, ◌||◌, List, length, get_or, refl, ap, ◌∙◌}
 use denote.Enum.Bare.{sameb, same_true}
 use Rattle.names.specs.contracts.classes.Class.{the_type}
 use Rattle.names.specs.declared.classes.Class.{Class}

@@ -1,18 +1,12 @@
 -- The loops over paths: to the last slash, along a shared front, from name to name. Assumes nothing.
-use Rattle.std.proofs.Common.{◌≡◌, ℕ, zero, suc, ◌+◌, ◌-◌, ◌<◌, ◌≤◌, min, Bool, true, false, cond, not, ◌&&◌, eqb, leb, List, [], ◌∷◌, ◌++◌, length, get_or, take, drop, Ordering, sym, refl, ap, ◌∙◌, subst, ⊎_elim, suc-le-suc, zero-le, le_of_suc-le-suc, not-suc-le-zero, add_assoc, one-add, arith, length-drop, append_assoc, append-nil}
+use Rattle.std.proofs.Common.{◌≡◌, ℕ, zero, suc, ◌+◌, ◌-◌, ◌<◌, ◌≤◌, Bool, true, false, cond, not, ◌&&◌, eqb, List, [], ◌∷◌, ◌++◌, length, get_or, take, drop, sym, refl, ap, ◌∙◌, arith, length-drop, append_assoc, append-nil}
 use native.Mathlib.Nat.{sub-zero}
-use Rattle.std.specs.List.{list_all, onto_first, slice_split}
+use Rattle.std.specs.List.{onto_first, slice_split}
 use Rattle.std.proofs.lemmas.List.{drop_all, drop_more, take-append-drop, take_rest}
-use Rattle.std.proofs.lemmas.List.Sums.{common_prefix_len-drop_yes, common_prefix_len-drop_no, common_prefix_len-le}
-use Rattle.std.proofs.lemmas.Bool.{and_from, and_left, or_left, cases_lt, le-leb, lt-leb, cases_order, eqb-true, eqb-false, eq-eqb, ne_eqb, cond-true, cond-false, not_from_false}
-use Rattle.std.specs.Ordering.{ordering_then}
-use Rattle.names.specs.Names.{before, each, node_name}
-use Rattle.names.specs.Orders.{path_order, rank}
+use Rattle.std.proofs.lemmas.Bool.{and_from, and_left, or_left, eq-eqb, ne_eqb, cond-true, cond-false, not_from_false}
+use Rattle.names.specs.Names.{each, node_name}
 use Rattle.names.specs.Paths.{root, parts, path_text, plain, behind_last, leaf, parent}
-use Rattle.names.proofs.Orders.{below, above, level, rank-one}
-use Rattle.names.proofs.PathLaws.{behind-plain, behind-last, and_true, names-one, names_join, text-names}
-use Rattle.names.proofs.Words.{each-all}
-use Rattle.std.specs.Ordering as std-orderings
+use Rattle.names.proofs.PathLaws.{behind-plain, behind-last, text-names}
 
 -- ---- to the last slash
 

@@ -20,7 +20,7 @@ pub fn find(s: &[u8], b: u8) -> usize
     s.iter().position(|x| *x == b).unwrap_or(s.len())
 }
 
-// Whether two texts have the same bytes.
+// Whether two texts have the same bytes: `==` in the words of the rules.
 pub fn same_bytes(a: &[u8], b: &[u8]) -> bool
     ensures { result ≡ bytes_eq a.now b.now }
 {

@@ -1,10 +1,10 @@
 // Paths, their parts and their order.
-ghost use Rattle.std.specs.Prelude.{◌≡◌, ◌≤◌, [], length, drop, nat_eq};
+ghost use Rattle.std.specs.Prelude.{◌≡◌, ◌≤◌, [], length, drop, take, nat_eq};
 ghost use Rattle.std.specs.List.{common_prefix_len};
 ghost use Rattle.names.specs.Names.{each, node_name};
 ghost use Rattle.names.specs.Orders.{name_order, path_order, rank};
 ghost use Rattle.names.specs.PathLaws.{PathLaws};
-ghost use Rattle.names.specs.Paths.{path_text, parts, leaf, parent};
+ghost use Rattle.names.specs.Paths.{path_text, parts, leaf, parent, stem};
 
 use crate::names::{find, is_node_name};
 use std::cmp::Ordering;
@@ -12,12 +12,15 @@ use std::cmp::Ordering;
 // What stands before each name of a path.
 pub const SLASH: u8 = b'/';
 
+// The root's path.
+pub const ROOT: &[u8] = b"/";
+
 // The laws of names, paths and their order hold.
 pub fn path_laws_stand()
     ensures { PathLaws }
 {}
 
-// Names by their bytes, a prefix first.
+// Names by their bytes, a prefix first: `cmp` in the words of the order of paths.
 pub fn compare_names(a: &[u8], b: &[u8]) -> Ordering
     ensures { result ≡ name_order a.now b.now }
 {
@@ -56,9 +59,19 @@ pub fn parent_of(path: &[u8]) -> &[u8]
 {
     let start = leaf_start(path);
     if start <= 1 {
-        return b"/";
+        return ROOT;
     }
     &path[0..start - 1]
+}
+
+// How many bytes of a path stand before a further slash: none of the root's.
+#[tactic(auto, unfolding(crate::specs::Paths::stem))]
+pub fn stem_len(path: &[u8]) -> usize
+    ensures within { result ≤ length path.now }
+    ensures front { take result path.now ≡ stem path.now }
+    ensures value { result ≡ length (stem path.now) }
+{
+    if path == ROOT { 0 } else { path.len() }
 }
 
 // The root, or a slash before each of some node names.

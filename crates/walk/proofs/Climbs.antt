@@ -1,7 +1,7 @@
 -- The turns of a walk. Assumes nothing.
-use Rattle.std.proofs.Common.{◌≡◌, ℕ, ◌+◌, ◌<◌, ◌≤◌, Bool, true, false, cond, ◌||◌, eqb, leb, ◌⊎◌, [], ◌∷◌, ◌++◌, length, take, drop, is_some, Some, None, Ok, Err, Option, Result, sym, refl, ap, ◌∙◌, inl, inr, ⊎_elim, arith, length-append}
-use Rattle.std.proofs.lemmas.List.{take_at, take_all, length-take-le, take-take, nil_from_length}
-use Rattle.std.proofs.lemmas.Bool.{cases_Bool, and_from, or_right, or_left, eq-eqb, cond-true, leb-true, leb-false, le-leb, and_parts}
+use Rattle.std.proofs.Common.{◌≡◌, ℕ, ◌+◌, ◌<◌, ◌≤◌, Bool, true, ◌||◌, eqb, leb, ◌⊎◌, [], ◌∷◌, ◌++◌, length, take, drop, is_some, Some, None, Ok, Err, Option, Result, sym, refl, ap, ◌∙◌, inl, inr, ⊎_elim, arith, length-append}
+use Rattle.std.proofs.lemmas.List.{take_at, length-take-le, take-take, nil_from_length}
+use Rattle.std.proofs.lemmas.Bool.{and_from, or_right, or_left, eq-eqb, cond-true, leb-true, le-leb, and_parts}
 use Rattle.names.specs.Names.{node_name}
 use Rattle.names.specs.Paths.{root, path_text, stem, child, leaf, parent}
 use Rattle.names.proofs.NameLaws.{node_names}
@@ -103,20 +103,6 @@ parent-front r e h =
     (ap (take (length (parent r))) k ∙ take_at (parent r) (47 ∷ leaf r) (length (parent r)) refl, omega arith))
     (by-root (parent r))
 
-pub stem-front : (r : Bytes) → path_text r ≡ true → take (cond (leb (length r) 1) 0 (length r)) r ≡ stem r
-stem-front r h =
-    let b = some_byte r h in
-    ⊎_elim
-    (λ t.
-    let e = leb-true (length r) 1 t in
-    let p = path_starts r h in
-    let top : r ≡ root = p.1 ∙ ap (λ x. 47 ∷ x) (nil_from_length p.0 (let z = ap length p.1 in omega arith)) in
-    ap (λ z. take (cond z 0 (length r)) r) t ∙ sym (ap stem top ∙ stem-root))
-    (λ f.
-    let e = leb-false (length r) 1 f in
-    ap (λ z. take (cond z 0 (length r)) r) f ∙ take_all (length r) r (omega arith) ∙ ⊎_elim (λ z. let y = ap length z in absurd (omega arith)) (λ z. sym z.1) (by-root r))
-    (cases_Bool (leb (length r) 1))
-
 -- what a question for a name answers, by its length and its buffer
 pub by-some : (X : Result (Option Bytes) Refusal) (k : ℕ) (out : Bytes) → Ok (Some k) ≡ length_of X → (b : Bytes) × (X ≡ Ok (Some b)) × (length b ≡ k) × (take k (named X out) ≡ b)
 by-some (Err e) k out h = let z : ◌≡◌ {A = ℕ} 0 1 = cc in absurd (omega arith)
@@ -160,15 +146,14 @@ module _ (M : Meaning) (p r a : Bytes) (g : Good M) (st : Stands M p) (h : Stand
           (λ z. let y = ap length (sym e ∙ ap (λ x. x ++ (47 ∷ leaf q)) z.1) ∙ length-append (parent q) (47 ∷ leaf q) in omega arith)
           (by-root (parent q))
 
-  pub turn_some : (m : ℕ) (out : Bytes) (c : Child) → x ≡ Ok (Some m) → c.stem ≡ cond (leb (length r) 1) 0 (length r) → c.name.items ≡ take m (named (next_child M r a 63) out) → Next M p c
-  turn_some m out c saw sm nm =
+  pub turn_some : (m : ℕ) (out : Bytes) (c : Child) → x ≡ Ok (Some m) → c.stem ≤ length r → take c.stem r ≡ stem r → c.name.items ≡ take m (named (next_child M r a 63) out) → Next M p c
+  turn_some m out c saw low sm nm =
       let b = by-some (next_child M r a 63) m out (sym saw ∙ said) in
       let name : c.name.items ≡ b.0 = nm ∙ b.3 in
       let f = found-child M p r a b.0 256 g st (omega arith) h b.1 in
-      let low : cond (leb (length r) 1) 0 (length r) ≤ length r = cond_low (leb (length r) 1) (length r) in
       let whole : length r ≤ length p = let z = ap length begins in let y = length-take-most (length r) p in omega arith in
       let sf : take c.stem p ≡ stem r =
-      ap (λ k. take k p) sm ∙ sym (ap (take (cond (leb (length r) 1) 0 (length r))) (sym begins) ∙ take-take (cond (leb (length r) 1) 0 (length r)) (length r) p low) ∙ stem-front r (text_standing M p r a g h) in
+      sym (ap (take c.stem) (sym begins) ∙ take-take c.stem (length r) p low) ∙ sm in
       let fl = length-take-le c.stem p (omega arith) in
       let sl = ap length sf in
       let bl = ap length name in
@@ -180,9 +165,5 @@ module _ (M : Meaning) (p r a : Bytes) (g : Good M) (st : Stands M p) (h : Stand
         short = omega arith;
       }
     where
-      cond_low : (b : Bool) (len : ℕ) → cond b 0 len ≤ len
-      cond_low true len = omega arith
-      cond_low false len = omega arith
-
       length-take-most : (n : ℕ) (xs : Bytes) → length (take n xs) ≤ length xs
       length-take-most n xs = omega (arith, lib.ListN.length-take n xs)

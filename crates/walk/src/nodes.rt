@@ -29,7 +29,7 @@ impl<'a, R: Readable> Nodes<'a, R> {
         }
     }
 
-    // The path of the next node, or none behind the last.
+    // The path of the next node, or none behind the last. It is no iterator: behind a refusal one would have to end, by a flag.
     pub fn next(&mut self) -> Result<Option<ArrayVec<u8, PATH_ROOM>>, Refusal>
         ensures tree { self.new.tree ≡ self.old.tree }
         ensures answer { Gives (R.Readable.meaning self.old.tree.now) (take self.old.len self.old.path) result (take self.new.len self.new.path) }

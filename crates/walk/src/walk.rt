@@ -7,7 +7,7 @@ ghost use Rattle.walk.specs.Steps.{Stands, Finds};
 ghost use Rattle.walk.specs.Walks.{next_node};
 
 use arrayvec::ArrayVec;
-use names::paths::{SLASH, leaf_start, parent_of};
+use names::paths::{SLASH, leaf_start, parent_of, stem_len};
 use store::{NAME_ROOM, Readable, Refusal};
 use tree::counts::MAX_PATH;
 
@@ -30,13 +30,6 @@ fn join(path: &mut [u8], stem: usize, name: &[u8]) -> usize
     path[stem] = SLASH;
     path[start..end].copy_from_slice(name);
     end
-}
-
-// How many bytes of a path stand before a further slash: none of the root's.
-fn stem_len(path: &[u8]) -> usize
-    ensures { result ≡ (if nat_le (length path.now) 1 then 0 else length path.now) }
-{
-    if path.len() <= 1 { 0 } else { path.len() }
 }
 
 // The last name of a path; the root's is empty.
@@ -62,6 +55,7 @@ fn child_behind<R: Readable>(tree: &R, path: &[u8]) -> Result<Option<Child>, Ref
     let mut after: &[u8] = b"";
     // Up from parent to parent, until one has a child behind.
     loop {
+        // Lent to the call, which fills its front and answers how far.
         let mut name = [0u8; NAME_ROOM];
         if let Some(n) = tree.next_child(open, after, &mut name)? {
             let mut name = ArrayVec::from(name);

@@ -1,4 +1,4 @@
-use Rattle.std.proofs.Common.{rules, ◌≡◌, length, get_or, sym, ◌∙◌, arith}
+use Rattle.std.proofs.Common.{rules, sym, ◌∙◌, arith}
 use Rattle.names.proofs.Walks.{path_empty, path-other, path-root, path_names}
 use Rattle.names.proofs.paths.is_path.Goals as goal
 

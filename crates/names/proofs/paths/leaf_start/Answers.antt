@@ -1,4 +1,4 @@
-use Rattle.std.proofs.Common.{rules, ◌≡◌, ◌∙◌, ◌+◌, ◌<◌, ◌≤◌, ℕ, length, get_or, arith}
+use Rattle.std.proofs.Common.{rules, ◌≡◌, ◌+◌, ◌<◌, ◌≤◌, ℕ, length, get_or}
 use Rattle.names.proofs.Walks.{slash-found, slash-none, plain-behind}
 use Rattle.names.proofs.paths.leaf_start.Goals as goal
 

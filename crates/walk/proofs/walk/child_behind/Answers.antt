@@ -12,7 +12,7 @@ loop-n-init g c = record {
 pub returns-in-Some : goal.returns-in-Some
 returns-in-Some g c =
     turn_some (g.R.Readable.meaning c.args.tree.now) c.args.path.now c.loop-n.open.now c.loop-n.after.now (g.R.Readable.good c.args.tree.now) c.requires c.loop-n.invariant.stands c.loop-n.invariant.front c.next_child.result c.next_child.ensures.answer c.in-Some.n _ _ (c.in_ok-n.was ∙ ap Ok c.in-Some.is)
-    c.stem_len-stem.ensures (c.truncate.ensures.items ∙ ap (take c.in-Some.n) (c.from-name.ensures.0 ∙ c.next_child.ensures.buffer))
+    c.stem_len-stem.ensures.within c.stem_len-stem.ensures.front (c.truncate.ensures.items ∙ ap (take c.in-Some.n) (c.from-name.ensures.0 ∙ c.next_child.ensures.buffer))
 
 pub returns-then-open-le1 : goal.returns-then-open-le1
 returns-then-open-le1 g c =
