@@ -55,6 +55,7 @@ pub fn put_property(out: &mut Lent<u8>, k: u32, value: &[u8])
 {
     let n = value.len();
     append32(out, Tag::Property as u32);
+    // The length is proved to fit; `try_from` would add a refusal that cannot come.
     append32(out, n as u32);
     append32(out, k);
     out.append(value);
@@ -85,6 +86,7 @@ pub fn put_sizes(xs: &mut [u8], structure: usize, strings: usize)
     requires { (40 ≤ length xs.old) × (56 + structure + strings ≤ 40960) }
     ensures { Resized xs.old structure strings xs.new }
 {
+    // The lengths are proved to fit; `try_from` would add a refusal that cannot come.
     put32(xs, 4, (STRUCTURE_START + structure + strings) as u32);
     put32(xs, 12, (STRUCTURE_START + structure) as u32);
     put32(xs, 32, strings as u32);

@@ -1,8 +1,9 @@
 // Lent elements of which the first ones are in use.
 ghost use Rattle.std.specs.Prelude.{◌≡◌, ◌+◌, ◌-◌, ◌≤◌, ◌++◌, length, take, drop};
+ghost use Rattle.std.specs.List.{between};
 ghost use Rattle.splices.specs.Splices.{spliced_in, spliced_out, written};
 
-use crate::{insert_slice, put, remove_slice};
+use crate::put;
 
 pub struct Lent<'a, T> {
     pub items: &'a mut [T],
@@ -30,6 +31,19 @@ impl<T: Copy> Lent<'_, T> {
         self.used += new.len();
     }
 
+    // Moves the `n` elements behind the used ones to index `at` among these, and counts them as used; those past it move up.
+    pub fn bring(&mut self, at: usize, n: usize)
+        requires order { at ≤ self.old.used }
+        requires room { self.old.used + n ≤ length self.old.items.now }
+        ensures used { self.new.used ≡ self.old.used + n }
+        ensures items { take self.new.used self.new.items.now ≡ spliced_in (take self.old.used self.old.items.now) at (between self.old.used (self.old.used + n) self.old.items.now) }
+        ensures kept { length self.new.items.now ≡ length self.old.items.now }
+    {
+        let end = self.used + n;
+        self.items[at..end].rotate_right(n);
+        self.used = end;
+    }
+
     // Puts `new` at index `at` of the used elements; those past it move up.
     pub fn insert(&mut self, at: usize, new: &[T])
         requires order { at ≤ self.old.used }
@@ -38,8 +52,9 @@ impl<T: Copy> Lent<'_, T> {
         ensures items { take self.new.used self.new.items.now ≡ spliced_in (take self.old.used self.old.items.now) at new.now }
         ensures kept { length self.new.items.now ≡ length self.old.items.now }
     {
-        insert_slice(self.items, self.used, at, new);
-        self.used += new.len();
+        let end = self.used;
+        put(self.items, end, new);
+        self.bring(at, new.len());
     }
 
     // Takes `n` of the used elements from index `at` on; those past them move down.
@@ -49,7 +64,7 @@ impl<T: Copy> Lent<'_, T> {
         ensures items { take self.new.used self.new.items.now ≡ spliced_out (take self.old.used self.old.items.now) at n }
         ensures kept { length self.new.items.now ≡ length self.old.items.now }
     {
-        remove_slice(self.items, self.used, at, n);
+        self.items[at..self.used].rotate_left(n);
         self.used -= n;
     }
 
