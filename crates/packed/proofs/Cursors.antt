@@ -1,6 +1,6 @@
 -- Tokens that stand in the memory from some byte on. Assumes nothing.
 use Rattle.std.proofs.Common.{◌≡◌, ℕ, zero, suc, ◌+◌, ◌-◌, ◌^◌, ◌<◌, ◌≤◌, List, [], ◌∷◌, ◌++◌, length, get_or, take, drop, replicate, sym, refl, ap, ◌∙◌, append_assoc, add-zero, add_assoc, arith}
-use Rattle.std.proofs.lemmas.List.{get_or-drop, drop_at, drop-drop, take_at, take-append-drop}
+use Rattle.std.proofs.lemmas.List.{get_or-drop, drop_at, drop-drop, take-append-drop}
 use Rattle.std.specs.List.{between, AllByRecursion}
 use Rattle.names.specs.Names.{before}
 use Rattle.tree.specs.Numbers.{be32, bytes32, pad4}
@@ -100,11 +100,6 @@ pub text-length : (bs name tail : Bytes) (from to : ℕ) → drop from bs ≡ na
 text-length bs name tail from to h l f =
     let r = take-over (to - from) name tail (omega arith) in
     ap (before 0) (ap (take (to - from)) h ∙ r.1) ∙ before-is name r.0 f
-
-pub text-is : (bs name tail : Bytes) (from n : ℕ) → drop from bs ≡ name ++ (0 ∷ tail) → n ≡ length name → between from (from + n) bs ≡ name
-text-is bs name tail from n h e =
-    let z : from + n - from ≡ n = omega arith in
-    ap (λ j. take j (drop from bs)) z ∙ ap (take n) h ∙ take_at name (0 ∷ tail) n (sym e)
 
 -- ---- cursors
 

@@ -1,18 +1,19 @@
 -- What is read at a node and at a property. Assumes nothing.
-use Rattle.std.proofs.Common.{◌≡◌, ℕ, zero, suc, ◌+◌, ◌-◌, ◌<◌, ◌≤◌, List, [], ◌∷◌, ◌++◌, length, take, drop, refl, ap, ◌∙◌, subst, arith}
+use Rattle.std.proofs.Common.{◌≡◌, ℕ, zero, suc, ◌+◌, ◌-◌, ◌<◌, ◌≤◌, List, [], ◌∷◌, ◌++◌, length, take, drop, Some, refl, ap, ◌∙◌, subst, arith}
 use Rattle.names.specs.Names.{before}
 use Rattle.std.proofs.lemmas.List.{take_more, take_at, map-append}
 use Rattle.std.specs.List.{between}
 use Rattle.tree.specs.Numbers.{be32, pad4}
 use Rattle.tree.specs.Places.{Bytes}
-use Rattle.blob.specs.Tokens.{Tok, begin, property, finish}
+use Rattle.blob.specs.Tokens.{Tok, begin, property, finish, text_at}
+use Rattle.blob.proofs.Shapes.{text_complete}
 use Rattle.tape.specs.Nodes.{Node, Property}
 use Rattle.tape.specs.Tapes.{nth, properties_at, property_of, properties_of}
 use Rattle.packed.specs.Packing.{size_of, strings, begin_of, first_of, mark_of, property_tokens, tokens_of, ends}
 use Rattle.packed.specs.Regions.{memory, nodes_of, Open}
 use Rattle.packed.specs.declared.region.Region.{Region}
 use Rattle.packed.proofs.Cursors.{Cursor, name-at, size-at, offset_at, value-at, text-length}
-use Rattle.packed.proofs.Decoded.{string_at}
+use Rattle.packed.proofs.Decoded.{string_at, text_in}
 use Rattle.packed.proofs.Spots.{at-begin, at_mark, at-property, room_for, kind-is, no_property}
 use Rattle.packed.proofs.Tokens.{size-one, size_join, names-one, size-ends}
 
@@ -46,7 +47,7 @@ module _ (x : Region) (o : Open x) (i : ℕ) (l : i < length (nodes_of x)) where
       let k = c.room in
       (omega arith, omega arith, omega arith)
 
-  pub name-here : (tail : Bytes) × (drop (begin_of ns i + 4) (memory x) ≡ (nth ns i).name ++ (0 ∷ tail))
+  name-here : (tail : Bytes) × (drop (begin_of ns i + 4) (memory x) ≡ (nth ns i).name ++ (0 ∷ tail))
   name-here = let c = at-begin x o i l in name-at (memory x) (begin_of ns i) c.k c.rest (nth ns i).name behind c.tokens
 
   pub name-long : before 0 (between (begin_of ns i + 4) (56 + x.structure) (memory x)) ≡ length (nth ns i).name
@@ -54,6 +55,13 @@ module _ (x : Region) (o : Open x) (i : ℕ) (l : i < length (nodes_of x)) where
       let c = at-begin x o i l in
       let r = name-room.0 in
       text-length (memory x) (nth ns i).name name-here.0 (begin_of ns i + 4) (56 + x.structure) name-here.1 (omega arith) c.full.0
+
+  pub name_text : text_at (memory x) (begin_of ns i + 4) (56 + x.structure) ≡ Some (nth ns i).name
+  name_text =
+      let c = at-begin x o i l in
+      let r = name-room.0 in
+      let t = text_in (memory x) (nth ns i).name name-here.0 (begin_of ns i + 4) (56 + x.structure) name-here.1 (omega arith) c.full.0 in
+      text_complete (memory x) (begin_of ns i + 4) (56 + x.structure) (nth ns i).name t
 
   -- ---- a property
   module _ (j : ℕ) (k : j < length (properties_at (nodes_of x) i)) where
@@ -92,11 +100,11 @@ module _ (x : Region) (o : Open x) (i : ℕ) (l : i < length (nodes_of x)) where
         let w : p + 12 + length value - (p + 12) ≡ length value = omega arith in
         ap (λ n. take n (drop (p + 12) (memory x))) w ∙ ap (take (length value)) (value-at (memory x) p cursor.k cursor.rest name value later cursor.tokens) ∙ take_at value _ (length value) refl
 
-    pub string_here : drop (56 + x.structure + cursor.k) (memory x) ≡ name ++ (0 ∷ (strings later ++ cursor.tail))
-    string_here = string_at x (mark_of ns i j).at name value later cursor
-
-    pub string_long : before 0 (between (56 + x.structure + cursor.k) (56 + x.structure + x.strings) (memory x)) ≡ length name
-    string_long = let r = property-room.3 in text-length (memory x) name (strings later ++ cursor.tail) (56 + x.structure + cursor.k) (56 + x.structure + x.strings) string_here (omega arith) cursor.full.0
+    pub string_text : text_at (memory x) (56 + x.structure + cursor.k) (56 + x.structure + x.strings) ≡ Some name
+    string_text =
+        let r = property-room.3 in
+        let t = text_in (memory x) name (strings later ++ cursor.tail) (56 + x.structure + cursor.k) (56 + x.structure + x.strings) (string_at x (mark_of ns i j).at name value later cursor) (omega arith) cursor.full.0 in
+        text_complete (memory x) (56 + x.structure + cursor.k) (56 + x.structure + x.strings) name t
 
     -- where the next one is
     pub mark-next : (mark_of ns i (j + 1)).at ≡ (mark_of ns i j).at + 12 + pad4 (length value)

@@ -1,8 +1,9 @@
 -- What is known of the tokens at a spot and at a mark. Assumes nothing.
-use Rattle.std.proofs.Common.{◌≡◌, ℕ, ◌+◌, ◌<◌, ◌≤◌, length, drop, ap, ◌∙◌, arith}
+use Rattle.std.proofs.Common.{◌≡◌, ℕ, ◌+◌, ◌<◌, ◌≤◌, Some, length, ap, ◌∙◌, arith}
 use Rattle.std.specs.List.{between}
 use Rattle.names.specs.Names.{before}
 use Rattle.tree.specs.Numbers.{be32, pad4}
+use Rattle.blob.specs.Tokens.{text_at}
 use Rattle.tape.specs.declared.Mark.{Mark}
 use Rattle.tape.specs.declared.Spot.{Spot}
 use Rattle.tape.specs.Tapes.{Here, On, nth, property_of}
@@ -12,9 +13,8 @@ use Rattle.packed.specs.Packing.{spot_of, begin_of, first_of, mark_of}
 use Rattle.packed.specs.Regions.{memory, nodes_of, Open}
 use Rattle.packed.specs.declared.reading.Packed.{Packed}
 use Rattle.packed.specs.declared.region.Region.{Region}
-use Rattle.packed.proofs.Cursors.{text-is}
 use Rattle.packed.proofs.Decoded.{opened}
-use Rattle.packed.proofs.Marks.{name-room, name-here, name-long, property-room, size-here, offset-here, value-here, string_here, string_long, mark-next, properties-within}
+use Rattle.packed.proofs.Marks.{name-room, name-long, name_text, property-room, size-here, offset-here, value-here, string_text, mark-next, properties-within}
 use Rattle.packed.proofs.Spots.{depth_small}
 
 pub open_at : (p : Packed) (i : ℕ) → i < length (nodes_of p.region) → Open p.region
@@ -44,10 +44,8 @@ module _ (p : Packed) (s : Spot) (h : Here (nodes_of p.region) (spot_of (nodes_o
   name-length-is at n e f =
       f ∙ ap (λ k. before 0 (between (k + 4) (56 + p.region.structure) (memory p.region))) e ∙ name-long p.region (open_at p s.node h.inside) s.node h.inside
 
-  pub name-is : (at n : ℕ) → at ≡ begin_of (nodes_of p.region) s.node → n ≡ length (nth (nodes_of p.region) s.node).name → between (at + 4) (at + 4 + n) (memory p.region) ≡ (nth (nodes_of p.region) s.node).name
-  name-is at n e f =
-      let t = name-here p.region (open_at p s.node h.inside) s.node h.inside in
-      text-is (memory p.region) _ t.0 (at + 4) n (ap (λ k. drop (k + 4) (memory p.region)) e ∙ t.1) f
+  pub name-is : (at : ℕ) → at ≡ begin_of (nodes_of p.region) s.node → text_at (memory p.region) (at + 4) (56 + p.region.structure) ≡ Some (nth (nodes_of p.region) s.node).name
+  name-is at e = ap (λ k. text_at (memory p.region) (k + 4) (56 + p.region.structure)) e ∙ name_text p.region (open_at p s.node h.inside) s.node h.inside
 
   pub first-is : (at n r : ℕ) → at ≡ begin_of (nodes_of p.region) s.node → n ≡ length (nth (nodes_of p.region) s.node).name → r ≡ pad4 (n + 1) → at + 4 + r ≡ first_of (nodes_of p.region) s.node
   unfolding first_of
@@ -98,17 +96,9 @@ module _ (p : Packed) (m : Mark) (h : On (nodes_of p.region) (mark_of (nodes_of 
       let t : m.at + 12 + r ≡ (mark_of (nodes_of p.region) m.node (m.number + 1)).at = omega arith in
       λ j. record { node = m.node; number = m.number + 1; property = 0; at = t j }
 
-  -- a property's name, where k is its offset in the strings block and n what is found to be its length
-  module _ (k n : ℕ) (e : k ≡ be32 (memory p.region) (m.at + 8)) (f : n ≡ before 0 (between (56 + p.region.structure + k) (56 + p.region.structure + p.region.strings) (memory p.region))) where
-    offset : k ≡ (Rattle.packed.proofs.Marks.cursor p.region o m.node h.inside m.number h.within).k
-    offset = e ∙ ap (λ z. be32 (memory p.region) (z.at + 8)) h.is ∙ offset-here p.region o m.node h.inside m.number h.within
-
-    pub string-length : n ≡ length (property_of (nodes_of p.region) m.node m.number).0
-    string-length =
-        f ∙ ap (λ z. before 0 (between (56 + p.region.structure + z) (56 + p.region.structure + p.region.strings) (memory p.region))) offset
-        ∙ string_long p.region o m.node h.inside m.number h.within
-
-    pub string-is : between (56 + p.region.structure + k) (56 + p.region.structure + k + n) (memory p.region) ≡ (property_of (nodes_of p.region) m.node m.number).0
-    string-is =
-        text-is (memory p.region) (property_of (nodes_of p.region) m.node m.number).0 _ (56 + p.region.structure + k) n
-        (ap (λ z. drop (56 + p.region.structure + z) (memory p.region)) offset ∙ string_here p.region o m.node h.inside m.number h.within) string-length
+  -- a property's name, where k is its offset in the strings block
+  pub string-is : (k : ℕ) → k ≡ be32 (memory p.region) (m.at + 8) → text_at (memory p.region) (56 + p.region.structure + k) (56 + p.region.structure + p.region.strings) ≡ Some (property_of (nodes_of p.region) m.node m.number).0
+  string-is k e =
+      let offset = e ∙ ap (λ z. be32 (memory p.region) (z.at + 8)) h.is ∙ offset-here p.region o m.node h.inside m.number h.within in
+      ap (λ z. text_at (memory p.region) (56 + p.region.structure + z) (56 + p.region.structure + p.region.strings)) offset
+      ∙ string_text p.region o m.node h.inside m.number h.within

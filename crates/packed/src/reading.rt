@@ -6,6 +6,7 @@ ghost use Rattle.tape.specs.Tapes.{Counted, Here, On, Reads, nth, properties_at,
 
 use crate::region::{Region, STRUCTURE_START};
 use blob::numbers::be32_at;
+use blob::text::text_at;
 use blob::types::Tag;
 use names::names::find;
 use tape::{Head, Mark, Spot};
@@ -32,6 +33,8 @@ pub struct Run {
     pub end: usize,
 }
 
+// Each method reads only what it needs of a token: `Blob::token_at` would also search for the end of a property's name in `run`,
+// `behind` and `value`.
 impl Packed<'_> {
     // Where a node's begin token is, behind the end tokens at its spot.
     pub fn begin(&self, s: Spot) -> Begin
@@ -50,7 +53,7 @@ impl Packed<'_> {
         Begin { depth, at }
     }
 
-    // How many bytes the name of the node has whose begin token is at `at`.
+    // How many bytes the name of the node has whose begin token is at `at`. Only the contract uses `s`, which says which node it is.
     pub fn name_length(&self, s: Spot, at: usize) -> usize
         requires here { Here (nodes_of self.now.region) (spot_of (nodes_of self.now.region)) s }
         requires at { at ≡ begin_of (nodes_of self.now.region) s.node }
@@ -67,13 +70,12 @@ impl Packed<'_> {
         ensures { result.now ≡ (nth (nodes_of self.now.region) s.node).name }
     {
         let b = self.begin(s);
-        let n = self.name_length(s, b.at);
         let from = b.at + 4;
-        let to = from + n;
-        &self.region.bytes[from..to]
+        let to = STRUCTURE_START + self.region.structure;
+        text_at(self.region.bytes, from, to).unwrap()
     }
 
-    // The properties of a node whose first is at `from`.
+    // The properties of a node whose first is at `from`. Only the contract uses `s`, which says which node it is.
     pub fn run(&self, s: Spot, from: usize) -> Run
         requires here { Here (nodes_of self.now.region) (spot_of (nodes_of self.now.region)) s }
         requires from { from ≡ first_of (nodes_of self.now.region) s.node }
@@ -142,9 +144,7 @@ impl Packed<'_> {
         let strings = STRUCTURE_START + self.region.structure;
         let from = strings + be32_at(self.region.bytes, m.at + 8) as usize;
         let end = strings + self.region.strings;
-        let n = find(&self.region.bytes[from..end], 0);
-        let to = from + n;
-        &self.region.bytes[from..to]
+        text_at(self.region.bytes, from, end).unwrap()
     }
 
     // The value of a property.
