@@ -45,10 +45,7 @@ pub fn find_node<T: Tape>(t: &T, path: &[u8]) -> Option<Spot>
     // A `for` over the names by `split` was tried: in a generic function it gets no proof.
     loop {
         let n = find(rest, SLASH);
-        let Some(s) = find_child(t, at, &rest[..n]) else {
-            return None;
-        };
-        at = s;
+        at = find_child(t, at, &rest[..n])?;
         if n == rest.len() {
             return Some(at);
         }
