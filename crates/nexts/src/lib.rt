@@ -14,7 +14,7 @@ use names::names::{is_node_name, is_property_name};
 use store::{NAME_ROOM, Refusal};
 use tape::iters::{children_of, properties_of};
 use tape::questions::put_front;
-use tape::search::open_node;
+use tape::search::open_named;
 use tape::{Spot, Tape};
 
 // The parts of a node that are gone over by their names: a name's rule, and the names that a place gives.
@@ -106,7 +106,7 @@ fn find_next<'a, K: Parts, T: Tape>(
     ensures name { shown result ≡ next_name K.rule K.on (meaning_of (T.Tape.boot t.now) (T.Tape.nodes t.now)) path.now after.now room }
     ensures held { Held (shown result) room }
 {
-    let Some(at) = open_node(t, path, may_follow::<K>(after))? else {
+    let Some(at) = open_named(t, path, may_follow::<K>(after))? else {
         return Err(Refusal::Absent);
     };
     if room < NAME_ROOM {
