@@ -1,48 +1,70 @@
--- The least of some names, one name further, and the names that were gone over. Assumes nothing.
-use Rattle.std.proofs.Common.{◌≡◌, ℕ, ◌+◌, Bool, true, false, cond, ◌&&◌, eqb, leb, List, [], ◌∷◌, ◌++◌, map, Some, None, Option, sym, refl, ap, ◌∙◌, inl, inr, ⊎_elim, Bor}
-use Rattle.std.specs.Iterator.{Drains, Yields, YieldsFirstBy}
+-- The least of the names behind one, and the names of children and of properties. Assumes nothing.
+use Rattle.std.proofs.Common.{◌≡◌, ℕ, ◌+◌, Bool, true, false, cond, eqb, leb, List, [], ◌∷◌, map, Some, None, Option, Ordering, Less, Equal, Greater, sym, refl, ap, ◌∙◌, Bor}
 use Rattle.std.specs.Cmp.Lexicographic.{lists_agrees, slice_partial_cmp}
-use Rattle.std.specs.Prelude.{IsTrue, MatchOption}
-use Rattle.std.specs.Ordering.{is_lt, is_some_and, nat_cmp}
-use Rattle.std.proofs.lemmas.Bool.{and_left}
+use Rattle.std.specs.List.{filter, fold, reduce}
+use Rattle.std.specs.Option.{option_map}
+use Rattle.std.specs.Ordering.{is_lt, is_some_and, min_by_ordering, nat_cmp, ordering_reverse}
+use Rattle.std.proofs.lemmas.Bool.{true≢false, false_from_ne_true, cond-true, cond-false}
+use Rattle.names.specs.Orders.{name_order}
+use Rattle.names.proofs.Orders.{name_order_lem}
 use Rattle.tree.specs.Places.{Bytes}
 use Rattle.store.specs.Calls.{later, least, least_after}
-use Rattle.store.specs.Laws.{Among}
-use Rattle.store.proofs.Nexts.{same-least}
+use Rattle.store.proofs.Nexts.{later_trans}
 use Rattle.tape.specs.declared.Spot.{Spot}
-use Rattle.tape.specs.Iters.{children_in, entries, with_name}
+use Rattle.tape.specs.Iters.{children_in, entries}
 use Rattle.tape.specs.Nodes.{Node, Property}
-use Rattle.nexts.specs.Kids.{kids, keys, better, shown_name}
+use Rattle.nexts.specs.Kids.{kids, keys, shown_name}
 
-to_front : (l x : Bytes) (ms : List Bytes) → Among l (ms ++ (x ∷ [])) → Among l (x ∷ ms)
-to_front l x [] a = a
-to_front l x (m ∷ ms) a = ⊎_elim (λ e. inr (inl e)) (λ b. ⊎_elim (λ e. inl e) (λ d. inr (inr d)) (to_front l x ms b)) a
+-- ---- the least of those behind a name
 
-to_back : (l x : Bytes) (ms : List Bytes) → Among l (x ∷ ms) → Among l (ms ++ (x ∷ []))
-to_back l x [] a = a
-to_back l x (m ∷ ms) a = ⊎_elim (λ e. inr (to_back l x ms (inl e))) (λ b. ⊎_elim (λ e. inl e) (λ d. inr (to_back l x ms (inr d))) b) a
+greater : (x m : Bytes) → name_order x m ≡ Greater → later m x ≡ true
+greater x m e = ap is_lt (name_order_lem.flip m x ∙ ap ordering_reverse e)
 
--- with a name more, the least is that name where it is better
-pub one-more : (n x : Bytes) (ms : List Bytes) → least_after n (ms ++ (x ∷ [])) ≡ cond (better (least_after n ms) x n) (Some x) (least_after n ms)
-unfolding least_after
-one-more n x ms = same-least n (ms ++ (x ∷ [])) (x ∷ ms) (λ l. to_front l x ms) (λ l. to_back l x ms) ∙ picks (least_after n ms)
+abbrev pub lesser : Bytes → Bytes → Bytes
+lesser x m = min_by_ordering (name_order x m) x m
+
+lesser-first : (x m : Bytes) (o : Option Bytes) → least (lesser x m) o ≡ least x (least m o)
+lesser-first x m o = go (name_order x m) refl o
   where
-    both : (a b : Bool) (k : Bytes) → cond a (cond b (Some x) (Some k)) (Some k) ≡ cond (a && b) (Some x) (Some k)
-    both true b k = refl
-    both false b k = refl
+    go : (r : Ordering) → name_order x m ≡ r → (o : Option Bytes) → least (min_by_ordering r x m) o ≡ least x (least m o)
+    go Less e None = sym (cond-true (later x m) (Some x) (Some m) (ap is_lt e))
+    go Equal e None = ap Some (name_order_lem.exact x m e) ∙ sym (cond-false (later x m) (Some x) (Some m) (ap is_lt e))
+    go Greater e None = sym (cond-false (later x m) (Some x) (Some m) (ap is_lt e))
+    go Less e (Some l) = by (later m l) refl
+      where
+        by : (b : Bool) → later m l ≡ b → least x (Some l) ≡ least x (cond b (Some m) (Some l))
+        by true q = cond-true (later x l) (Some x) (Some l) (later_trans x m l (ap is_lt e) q) ∙ sym (cond-true (later x m) (Some x) (Some m) (ap is_lt e))
+        by false q = refl
+    go Equal e (Some l) = by (later m l) refl
+      where
+        by : (b : Bool) → later m l ≡ b → least x (Some l) ≡ least x (cond b (Some m) (Some l))
+        by true q = cond-true (later x l) (Some x) (Some l) (ap (λ z. later z l) (name_order_lem.exact x m e) ∙ q) ∙ ap Some (name_order_lem.exact x m e) ∙ sym (cond-false (later x m) (Some x) (Some m) (ap is_lt e))
+        by false q = refl
+    go Greater e (Some l) = by (later m l) refl
+      where
+        by : (b : Bool) → later m l ≡ b → cond b (Some m) (Some l) ≡ least x (cond b (Some m) (Some l))
+        by true q = sym (cond-false (later x m) (Some x) (Some m) (ap is_lt e))
+        by false q = sym (cond-false (later x l) (Some x) (Some l) (false_from_ne_true (later x l) (λ t. true≢false (sym (later_trans m x l (greater x m e) t) ∙ q))))
 
-    picks : (o : Option Bytes) → cond (later n x) (least x o) o ≡ cond (better o x n) (Some x) o
-    picks None = refl
-    picks (Some k) = both (later n x) (later x k) k
+least-so-far : (n x : Bytes) (ms : List Bytes) → Some (fold lesser x (filter (later n) ms)) ≡ least x (least_after n ms)
+unfolding least_after
+least-so-far n x [] = refl
+least-so-far n x (m ∷ ms) = go (later n m) (least-so-far n x ms) (least-so-far n (lesser x m) ms)
+  where
+    go : (b : Bool) → Some (fold lesser x (filter (later n) ms)) ≡ least x (least_after n ms) → Some (fold lesser (lesser x m) (filter (later n) ms)) ≡ least (lesser x m) (least_after n ms) → Some (fold lesser x (cond b (m ∷ filter (later n) ms) (filter (later n) ms))) ≡ least x (cond b (least m (least_after n ms)) (least_after n ms))
+    go true ih more = more ∙ lesser-first x m (least_after n ms)
+    go false ih more = ih
+
+pub least_is : (n : Bytes) (ms : List Bytes) → reduce lesser (filter (later n) ms) ≡ least_after n ms
+unfolding least_after
+least_is n [] = refl
+least_is n (m ∷ ms) = go (later n m) (least_is n ms)
+  where
+    go : (b : Bool) → reduce lesser (filter (later n) ms) ≡ least_after n ms → reduce lesser (cond b (m ∷ filter (later n) ms) (filter (later n) ms)) ≡ cond b (least m (least_after n ms)) (least_after n ms)
+    go true ih = least-so-far n m ms
+    go false ih = ih
 
 -- ---- the names that an iterator gave
-
-pub gone_over : {S P : Type 0} (rest : S → List (P × Bytes)) (s : S) (xs : List (P × Bor Bytes)) → Drains (YieldsFirstBy with_name rest) s xs → map (λ x. x.1.now) xs ≡ map (λ y. y.1) (rest s)
-gone_over {S = S} {P = P} rest s xs d = go s xs d.1.0 d.1.1 d.1.2.0
-  where
-    go : (a : S) (ys : List (P × Bor Bytes)) (t : S) → Yields (YieldsFirstBy with_name rest) a ys t → rest t ≡ [] → map (λ x. x.1.now) ys ≡ map (λ y. y.1) (rest a)
-    go a [] t y e = ap (map (λ z. z.1)) (sym (ap rest y ∙ e))
-    go a (x ∷ ys) t y e = ap (λ z. x.1.now ∷ z) (go y.0 ys t y.2 e) ∙ ap (map (λ z. z.1)) (sym y.1)
 
 pub kids_of : (spot : ℕ → Spot) (m i : ℕ) (ns : List Node) → map (λ x. x.1) (children_in spot m i ns) ≡ kids m ns
 unfolding kids children_in
@@ -59,15 +81,18 @@ unfolding keys entries
 keys_of mark k [] = refl
 keys_of mark k (x ∷ xs) = ap (λ z. x.0 ∷ z) (keys_of mark (k + 1) xs)
 
--- ---- whether a name is better
+-- ---- whether a name comes behind
 
 pub before_is : (a b : Bytes) → is_some_and is_lt (slice_partial_cmp (λ x y. Some (nat_cmp x y)) a b) ≡ later a b
 before_is a b = ap (is_some_and is_lt) (lists_agrees (λ x y. refl) a b)
 
-pub not_better : (o : Option Bytes) (m n : Bytes) → later n m ≡ false → better o m n ≡ false
-not_better None m n h = h
-not_better (Some k) m n h = and_left (later n m) (later m k) h
+-- ---- a name where it stands
 
-pub is_best : (o : Option (Bor Bytes)) (m n : Bytes) (b : Bool) (Q : Bor Bytes → Type 0) → MatchOption o (IsTrue b) Q → ((k : Bor Bytes) → Q k → b ≡ later m k.now) → later n m ≡ true → b ≡ better (shown_name o) m n
-is_best None m n b Q e f h = e ∙ sym h
-is_best (Some k) m n b Q e f h = f k e ∙ ap (λ z. z && later m k.now) (sym h)
+pub shown-is : (o : Option (Bor Bytes)) → option_map (λ x. x.now) o ≡ shown_name o
+shown-is None = refl
+shown-is (Some v) = refl
+
+pub picks_lesser : (a b : Bor Bytes) (r : Ordering) → (min_by_ordering r a b).now ≡ min_by_ordering r a.now b.now
+picks_lesser a b Less = refl
+picks_lesser a b Equal = refl
+picks_lesser a b Greater = refl

@@ -1,10 +1,10 @@
 -- The names of a node's children and properties as a tape has them. Assumes nothing.
-use Rattle.std.specs.Prelude.{◌≡◌, ℕ, ◌+◌, ◌≤◌, Bool, true, cond, ◌&&◌, List, [], ◌∷◌, length, Some, None, Ok, Err, Option, Result, ◌==◌, nat_le}
+use Rattle.std.specs.Prelude.{◌≡◌, ℕ, ◌+◌, ◌≤◌, true, cond, List, [], ◌∷◌, length, Some, None, Ok, Err, Option, Result, ◌==◌, nat_le}
 use Rattle.std.specs.Borrow.{Bor}
 use Rattle.store.specs.declared.Refusal.{Refusal}
 use Rattle.names.specs.Paths.{path_text, stem}
 use Rattle.tree.specs.Places.{Bytes, Place}
-use Rattle.store.specs.Calls.{later, least_after, names}
+use Rattle.store.specs.Calls.{least_after, names}
 use Rattle.tape.specs.Nodes.{Node, Property, tree_from}
 use Rattle.tape.specs.Tapes.{stem_at}
 
@@ -21,11 +21,6 @@ keys (x ∷ xs) = x.0 ∷ keys xs
 abbrev pub shown_name : Option (Bor Bytes) → Option Bytes
 shown_name None = None
 shown_name (Some v) = Some v.now
-
--- whether the name m is behind n and before the best so far
-abbrev pub better : Option Bytes → Bytes → Bytes → Bool
-better None m n = later n m
-better (Some k) m n = later n m && later m k
 
 -- a name that is answered fits a buffer of so many bytes
 abbrev pub Held : Result (Option Bytes) Refusal → ℕ → Type 0

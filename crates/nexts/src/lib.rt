@@ -2,19 +2,20 @@
 #![tactic(auto)]
 
 ghost use Rattle.std.specs.Prelude.{◌≡◌, ◌||◌, Bool, List, length, map, ◌==◌};
-ghost use Rattle.std.specs.Iterator.{Drains, IsFinite};
+ghost use Rattle.std.specs.Iterator.{AlwaysYields, IsFinite};
 ghost use Rattle.names.specs.Names.{node_name, property_name};
 ghost use Rattle.tree.specs.Places.{Bytes, Place};
 ghost use Rattle.store.specs.Calls.{child_on, least_after, length_of, named, next_child, next_name, next_property, property_on};
+ghost use Rattle.tape.specs.Iters.{with_name};
 ghost use Rattle.tape.specs.Nodes.{meaning_of};
 ghost use Rattle.tape.specs.Tapes.{Here, shown};
-ghost use Rattle.nexts.specs.Kids.{Held, LeastAt, better, shown_name};
+ghost use Rattle.nexts.specs.Kids.{Held, LeastAt, shown_name};
 
 use names::names::{is_node_name, is_property_name};
 use store::{NAME_ROOM, Refusal};
 use tape::iters::{children_of, properties_of};
 use tape::questions::put_front;
-use tape::search::open_node;
+use tape::search::open_named;
 use tape::{Spot, Tape};
 
 // The parts of a node that are gone over by their names: a name's rule, and the names that a place gives.
@@ -36,6 +37,7 @@ struct Children;
 
 struct Properties;
 
+// Both impls are alike, since each only names its rule, the names that a place gives, and its iterator.
 impl Parts for Children {
     ghost rule = { node_name };
 
@@ -64,13 +66,6 @@ impl Parts for Properties {
     }
 }
 
-// Whether a name is behind `after` and before the best so far.
-fn is_better(best: Option<&[u8]>, name: &[u8], after: &[u8]) -> bool
-    ensures { result ≡ better (shown_name best.entry) name.now after.now }
-{
-    after < name && best.is_none_or(|k| name < k)
-}
-
 // The least name behind `after` of some parts.
 fn least_name<'a, P: Drop, I: Iterator<Item = (P, &'a [u8])>>(
     parts: I,
@@ -78,15 +73,12 @@ fn least_name<'a, P: Drop, I: Iterator<Item = (P, &'a [u8])>>(
 ) -> Option<&'a [u8]>
     requires can { I.can_next parts }
     requires ends { IsFinite (I.remaining parts) }
-    ensures { (xs : List _) × Drains I.next_gives parts xs × (shown_name result ≡ least_after after.now (map (λ x. x.1.now) xs)) }
+    ensures { (xs : List (_ × Bytes)) → AlwaysYields I.next_gives with_name parts xs → shown_name result ≡ least_after after.now (map (λ x. x.1) xs) }
 {
-    let mut best: Option<&'a [u8]> = None;
-    for (_, name) in parts {
-        if is_better(best, name, after) {
-            best = Some(name);
-        }
-    }
-    best
+    parts
+        .map(|(_, name)| name)
+        .filter(|name| after < *name)
+        .min()
 }
 
 // Whether a name may be asked after: the empty one starts.
@@ -106,7 +98,7 @@ fn find_next<'a, K: Parts, T: Tape>(
     ensures name { shown result ≡ next_name K.rule K.on (meaning_of (T.Tape.boot t.now) (T.Tape.nodes t.now)) path.now after.now room }
     ensures held { Held (shown result) room }
 {
-    let Some(at) = open_node(t, path, may_follow::<K>(after))? else {
+    let Some(at) = open_named(t, path, may_follow::<K>(after))? else {
         return Err(Refusal::Absent);
     };
     if room < NAME_ROOM {

@@ -5,7 +5,8 @@ ghost use Rattle.tape.specs.Iters.{ChildrenReady, PropertiesReady, children_in, 
 
 use crate::{Mark, Spot, Tape};
 
-// The children that are left.
+// The children that are left. They end by their depth and the properties by their number, so each iterator has its own state and its
+// own step; both say what they give in the same words, as the first of what is left, with its name.
 #[derive(Drop)]
 pub struct Children<'a, T> {
     tape: &'a T,

@@ -5,22 +5,20 @@ ghost use Rattle.tape.specs.Nodes.{meaning_of};
 ghost use Rattle.tape.specs.Tapes.{shown};
 
 use crate::Tape;
-use crate::search::{find_property, open_node};
+use crate::search::{find_property, open_named, open_node, opened};
 use names::names::is_property_name;
 use store::Refusal;
 
 pub fn has_node<T: Tape>(t: &T, path: &[u8]) -> Result<bool, Refusal>
     ensures { result ≡ has_node (meaning_of (T.Tape.boot t.now) (T.Tape.nodes t.now)) path.now }
 {
-    Ok(open_node(t, path, true)?.is_some())
+    Ok(open_node(t, path)?.is_some())
 }
 
 pub fn boot_cpu<T: Tape>(t: &T) -> Result<u32, Refusal>
     ensures { result ≡ boot_of (meaning_of (T.Tape.boot t.now) (T.Tape.nodes t.now)) }
 {
-    if t.counts().nodes == 0 {
-        return Err(Refusal::Closed);
-    }
+    opened(t)?;
     Ok(t.boot_number())
 }
 
@@ -28,7 +26,7 @@ pub fn boot_cpu<T: Tape>(t: &T) -> Result<u32, Refusal>
 fn find_value<'a, T: Tape>(t: &'a T, path: &[u8], name: &[u8]) -> Result<Option<&'a [u8]>, Refusal>
     ensures { shown result ≡ value_at (meaning_of (T.Tape.boot t.now) (T.Tape.nodes t.now)) path.now name.now }
 {
-    let Some(at) = open_node(t, path, is_property_name(name))? else {
+    let Some(at) = open_named(t, path, is_property_name(name))? else {
         return Ok(None);
     };
     let Some(m) = find_property(t, at, name) else {

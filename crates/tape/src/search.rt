@@ -1,6 +1,7 @@
 // Where a node or a property is.
-ghost use Rattle.std.specs.Prelude.{◌≡◌, ◌+◌, ◌<◌, true, length, drop};
+ghost use Rattle.std.specs.Prelude.{◌≡◌, ◌+◌, ◌<◌, true, length, drop, MatchResult};
 ghost use Rattle.names.specs.Paths.{path_text, stem};
+ghost use Rattle.store.specs.declared.Refusal.TheVariants.{Closed};
 ghost use Rattle.tape.specs.Nodes.{child_in, property_in};
 ghost use Rattle.tape.specs.Tapes.{Here, Located, Opened, Owned, nth, placed, properties_at};
 
@@ -45,10 +46,7 @@ pub fn find_node<T: Tape>(t: &T, path: &[u8]) -> Option<Spot>
     // A `for` over the names by `split` was tried: in a generic function it gets no proof.
     loop {
         let n = find(rest, SLASH);
-        let Some(s) = find_child(t, at, &rest[..n]) else {
-            return None;
-        };
-        at = s;
+        at = find_child(t, at, &rest[..n])?;
         if n == rest.len() {
             return Some(at);
         }
@@ -56,15 +54,34 @@ pub fn find_node<T: Tape>(t: &T, path: &[u8]) -> Option<Spot>
     }
 }
 
-// The node at a path of an open tape. `named` says whether the other name of the call is by its rule.
-pub fn open_node<T: Tape>(t: &T, path: &[u8], named: bool) -> Result<Option<Spot>, Refusal>
-    ensures { Opened (T.Tape.nodes t.now) (T.Tape.spot t.now) path.now named result }
+// Refuses a closed tape.
+pub fn opened<T: Tape>(t: &T) -> Result<(), Refusal>
+    ensures { MatchResult result (λ _. 0 < length (T.Tape.nodes t.now)) (λ e. (length (T.Tape.nodes t.now) ≡ 0) × (e ≡ Closed)) }
 {
     if t.counts().nodes == 0 {
         return Err(Refusal::Closed);
     }
-    if !is_path(path) || !named {
+    Ok(())
+}
+
+// The node at a path of an open tape.
+pub fn open_node<T: Tape>(t: &T, path: &[u8]) -> Result<Option<Spot>, Refusal>
+    ensures { Opened (T.Tape.nodes t.now) (T.Tape.spot t.now) path.now true result }
+{
+    opened(t)?;
+    if !is_path(path) {
         return Err(Refusal::BadName);
     }
     Ok(find_node(t, path))
+}
+
+// The same for a call with another name, which is by its rule where `named` says so. A closed tape is refused before a bad name.
+pub fn open_named<T: Tape>(t: &T, path: &[u8], named: bool) -> Result<Option<Spot>, Refusal>
+    ensures { Opened (T.Tape.nodes t.now) (T.Tape.spot t.now) path.now named result }
+{
+    opened(t)?;
+    if !named {
+        return Err(Refusal::BadName);
+    }
+    open_node(t, path)
 }

@@ -5,7 +5,7 @@ ghost use Rattle.tape.specs.Nodes.{meaning_of};
 ghost use Rattle.tape.specs.Tapes.{Here, busy};
 ghost use Rattle.tree.specs.Places.{node_at, property_at};
 
-use crate::search::{find_node, find_property, open_node};
+use crate::search::{find_node, find_property, open_named, open_node};
 use crate::{Spot, Tape};
 use names::names::is_property_name;
 use names::paths::{leaf_start, parent_of};
@@ -25,7 +25,7 @@ pub fn add_node<T: Tape>(t: &mut T, path: &[u8]) -> Result<(), Refusal>
     ensures answer { result ≡ add_node (meaning_of (T.Tape.boot t.old) (T.Tape.nodes t.old)) path.now }
     ensures after { meaning_of (T.Tape.boot t.new) (T.Tape.nodes t.new) ≡ settled result (changed (meaning_of (T.Tape.boot t.old) (T.Tape.nodes t.old)) (node_at path.now) (Some [])) (meaning_of (T.Tape.boot t.old) (T.Tape.nodes t.old)) }
 {
-    if open_node(t, path, true)?.is_some() {
+    if open_node(t, path)?.is_some() {
         return Err(Refusal::Present);
     }
     let Some(at) = find_node(t, parent_of(path)) else {
@@ -44,7 +44,7 @@ pub fn drop_node<T: Tape>(t: &mut T, path: &[u8]) -> Result<(), Refusal>
     ensures answer { result ≡ drop_node (meaning_of (T.Tape.boot t.old) (T.Tape.nodes t.old)) path.now }
     ensures after { meaning_of (T.Tape.boot t.new) (T.Tape.nodes t.new) ≡ settled result (changed (meaning_of (T.Tape.boot t.old) (T.Tape.nodes t.old)) (node_at path.now) None) (meaning_of (T.Tape.boot t.old) (T.Tape.nodes t.old)) }
 {
-    let Some(at) = open_node(t, path, true)? else {
+    let Some(at) = open_node(t, path)? else {
         return Err(Refusal::Absent);
     };
     if path.len() == 1 || is_busy(t, at) {
@@ -63,7 +63,7 @@ pub fn set_property<T: Tape>(
     ensures answer { result ≡ set_property (meaning_of (T.Tape.boot t.old) (T.Tape.nodes t.old)) path.now name.now value.now }
     ensures after { meaning_of (T.Tape.boot t.new) (T.Tape.nodes t.new) ≡ settled result (changed (meaning_of (T.Tape.boot t.old) (T.Tape.nodes t.old)) (property_at path.now name.now) (Some value.now)) (meaning_of (T.Tape.boot t.old) (T.Tape.nodes t.old)) }
 {
-    let Some(at) = open_node(t, path, is_property_name(name))? else {
+    let Some(at) = open_named(t, path, is_property_name(name))? else {
         return Err(Refusal::Absent);
     };
     let counts = t.counts();
@@ -92,7 +92,7 @@ pub fn drop_property<T: Tape>(t: &mut T, path: &[u8], name: &[u8]) -> Result<(),
     ensures answer { result ≡ drop_property (meaning_of (T.Tape.boot t.old) (T.Tape.nodes t.old)) path.now name.now }
     ensures after { meaning_of (T.Tape.boot t.new) (T.Tape.nodes t.new) ≡ settled result (changed (meaning_of (T.Tape.boot t.old) (T.Tape.nodes t.old)) (property_at path.now name.now) None) (meaning_of (T.Tape.boot t.old) (T.Tape.nodes t.old)) }
 {
-    let Some(at) = open_node(t, path, is_property_name(name))? else {
+    let Some(at) = open_named(t, path, is_property_name(name))? else {
         return Err(Refusal::Absent);
     };
     let m = find_property(t, at, name).ok_or(Refusal::Absent)?;

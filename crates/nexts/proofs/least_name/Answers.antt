@@ -1,25 +1,21 @@
-use Rattle.std.proofs.Common.{◌≡◌, [], ◌∷◌, ◌++◌, Some, cond, map, sym, refl, ap, ◌∙◌}
-use Rattle.std.proofs.lemmas.Bool.{cond-true, cond-false}
-use Rattle.std.proofs.lemmas.List.{map-append}
-use Rattle.store.specs.Calls.{least_after}
-use Rattle.nexts.specs.Kids.{better, shown_name}
-use Rattle.nexts.proofs.Kin.{one-more}
+use Rattle.std.proofs.Common.{◌≡◌, Some, sym, ◌∙◌, rules}
+use Rattle.std.specs.Ordering.{min_by_ordering, nat_cmp, is_lt, is_some_and}
+use Rattle.std.specs.Cmp.Lexicographic.{slice_partial_cmp}
+use Rattle.std.proofs.lemmas.Iterator.{YieldsList, YieldsList-from_map_by}
+use Rattle.std.proofs.lemmas.Iterator.Consumers.{YieldsList-at, YieldsList-from_filter, reduce_by_from_yields_List}
+use Rattle.names.specs.Orders.{name_order}
+use Rattle.store.specs.Calls.{later}
+use Rattle.tape.specs.Iters.{with_name}
+use Rattle.nexts.proofs.Kin.{before_is, shown-is, picks_lesser, least_is, lesser}
 use Rattle.nexts.proofs.least_name.Goals as goal
-use Rattle.nexts.proofs.least_name.Goals.{then-is_better, else-is_better}
 
-pub loop-name-init : goal.loop-name-init
-unfolding least_after
-loop-name-init g c = refl
-
-pub loop-name-preserved : goal.loop-name-preserved
-loop-name-preserved g c =
+pub returns : goal.returns
+returns g c xs h =
     let n = c.args.after.now in
-    let x = c.in-Some.name.now in
-    let ms = map (λ x. x.1.now) c.loop-name.yielded in
-    let o = shown_name c.loop-name.best in
-    let e : cond (better o x n) (Some x) o ≡ least_after n (map (λ x. x.1.now) (c.loop-name.yielded ++ ((c.in-Some.field-0-0, c.in-Some.name) ∷ []))) =
-    ap (λ z. cond (better z x n) (Some x) z) c.loop-name.invariant ∙ sym (one-more n x ms) ∙ ap (least_after n) (sym (map-append (λ x. x.1.now) c.loop-name.yielded _)) in
-    elim c.if-is_better.branch [
-      | then-is_better w ↦ ap shown_name w.best-is ∙ sym (cond-true (better o x n) (Some x) o (sym w.if-is_better.ensures)) ∙ e
-      | else-is_better w ↦ ap shown_name w.best-is ∙ sym (cond-false (better o x n) (Some x) o (sym w.if-is_better.ensures)) ∙ e
-    ]
+    let road : YieldsList g.I.Iterator.next_gives with_name c.args.parts xs = record { runs = h } in
+    sym (shown-is c.min.result)
+    ∙ reduce_by_from_yields_List (λ a b. min_by_ordering (name_order a.now b.now) a b) lesser c.filter.result c.min.result (λ a b. picks_lesser a b (name_order a.now b.now)) c.min.ensures.ran
+    (YieldsList-from_filter _ (later n) (YieldsList-at c.filter.ensures.source (YieldsList-from_map_by _ (λ x. x.now) (λ y. y.1) (YieldsList-at c.map.ensures.source road) c.map.ensures.closure (λ x r q k. search rules))) c.filter.ensures.closure (λ x b q k.
+    let z : b ≡ is_some_and is_lt (slice_partial_cmp (λ x y. Some (nat_cmp x y)) n x.now) = search rules in
+    (search rules, z ∙ before_is n x.now)))
+    ∙ least_is n _

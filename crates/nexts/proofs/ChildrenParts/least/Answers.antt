@@ -1,8 +1,9 @@
-use Rattle.std.proofs.Common.{◌+◌, map, sym, ap, ◌∙◌}
+use Rattle.std.proofs.Common.{◌+◌, map, sym, refl, ap, ◌∙◌}
+use Rattle.std.proofs.lemmas.Iterator.Consumers.{YieldsList-from_first}
 use Rattle.store.specs.Calls.{least_after}
 use Rattle.names.proofs.NameLaws.{node_names}
-use Rattle.tape.specs.Iters.{children_left}
-use Rattle.nexts.proofs.Kin.{gone_over, kids_of}
+use Rattle.tape.specs.Iters.{children_left, with_name}
+use Rattle.nexts.proofs.Kin.{kids_of}
 use Rattle.nexts.proofs.Members.{kids-named, kids-same, least-among}
 use Rattle.nexts.proofs.ChildrenParts.least.Goals as goal
 
@@ -15,6 +16,6 @@ returns g c p good is =
     let n = c.args.after.now in
     let i = c.args.at.node in
     let h = c.requires.inside in
-    let r = c.least_name.ensures in
-    let q = r.2 ∙ ap (least_after n) (gone_over (children_left g.T.Tape.nodes g.T.Tape.spot) c.children_of.result r.0 r.1 ∙ ap (map (λ y. y.1)) c.children_of.ensures.left ∙ kids_of (g.T.Tape.spot t) _ (i + 1) _) in
+    let r = c.least_name.ensures _ (YieldsList-from_first with_name (children_left g.T.Tape.nodes g.T.Tape.spot) _ refl).runs in
+    let q = r ∙ ap (least_after n) (ap (map (λ y. y.1)) c.children_of.ensures.left ∙ kids_of (g.T.Tape.spot t) _ (i + 1) _) in
     (q ∙ kids-same boot ns v p good i h is n, λ x z. (node_names x (kids-named boot ns v p good i h is x (least-among n x _ (sym q ∙ z)))).2)
