@@ -47,7 +47,7 @@ pub fn fill<S: Store>(store: &mut S, tokens: &mut Tokens<'_>) -> Result<(), Refu
     ensures loads { Loads (ahead tokens.old.blob.bytes.now tokens.old.blob.layout tokens.old.next) (S.Readable.meaning store.old) result (S.Readable.meaning store.new) }
     ensures writes { (result, S.Readable.meaning store.new) ≡ run (drop 1 (ahead tokens.old.blob.bytes.now tokens.old.blob.layout tokens.old.next)) root (S.Readable.meaning store.old) }
 {
-    match tokens.advance() {
+    match tokens.next() {
         Some(_) => fill_rest(store, tokens),
         None => Ok(()),
     }

@@ -1,5 +1,5 @@
 -- One token of the reading, and what a child's body leaves. Assumes nothing.
-use Rattle.std.proofs.Common.{◌≡◌, ℕ, ◌+◌, ◌≤◌, Bool, true, false, cond, List, [], ◌∷◌, ◌++◌, length, take, drop, Some, None, Ok, Err, Option, Result, IfSome, refl, sym, ap, ◌∙◌, subst, arith, length-take}
+use Rattle.std.proofs.Common.{◌≡◌, ℕ, ◌+◌, ◌≤◌, Bool, true, false, not, cond, List, [], ◌∷◌, ◌++◌, length, take, drop, Some, None, Ok, Err, Option, Result, IfSome, refl, sym, ap, ◌∙◌, subst, arith, length-take}
 use Rattle.std.specs.Option.{ok_or}
 use Rattle.std.proofs.lemmas.List.{take-take, drop_all}
 use Rattle.names.specs.Names.{node_name}
@@ -76,6 +76,15 @@ counted false c d e h = absurd (cc)
 pub uncounted : (fits : Bool) (c : Counts) (e f : Refusal) → Err f ≡ ok_or (cond fits (Some c) None) e → (fits ≡ false) × (f ≡ e)
 uncounted true c e f h = absurd (cc)
 uncounted false c e f h = (refl, cc)
+
+-- the names from base on go where no child has come, and stay where one has
+pub forgotten : (children : Bool) (base : ℕ) (was is : List ℕ) → not children ≡ true → is ≡ take base was → is ≡ cond children was (take base was)
+forgotten true base was is n e = absurd (cc)
+forgotten false base was is n e = e
+
+pub kept : (children : Bool) (base : ℕ) (was is : List ℕ) → not children ≡ false → is ≡ was → is ≡ cond children was (take base was)
+kept true base was is n e = e
+kept false base was is n e = absurd (cc)
 
 -- the names of the children alone
 pub kin-named : (bs : Bytes) (base path : ℕ) (children : Bool) (ns : List Bytes) (was is : List ℕ) → base ≤ length was → is ≡ cond children was (take base was)

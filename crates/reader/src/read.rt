@@ -70,7 +70,10 @@ impl<'a> Reader<'a> {
         requires short { frame.path ≤ 255 }
         ensures { (ns : List Bytes) → Spells self.old.blob.bytes.now (drop frame.base self.old.seen.at.items) ns → let g = opened frame.path frame.children ns in let names = kids g ++ (name.now ∷ []) in Passed self.old self.new at g (λ gs. opened frame.path true names ∷ gs) (Named self.old.blob.bytes.now frame.base self.old.seen.at.items self.new.seen.at.items names) result }
     {
-        self.seen.keep_children(frame.base, frame.children);
+        // At the first child the names so far are of properties, and go.
+        if !frame.children {
+            self.seen.at.truncate(frame.base);
+        }
         if !is_node_name(name) || self.seen.has(self.blob.bytes, frame.base, name) {
             return Err(Refusal::Name(at));
         }

@@ -1,6 +1,6 @@
 // The names that the open nodes have so far, by the offsets where they begin in the blob. An open node's own are above
 // those of the nodes around it: of its properties while it has no child, then of its children.
-ghost use Rattle.std.specs.Prelude.{◌≡◌, ◌<◌, ◌≤◌, cond, [], ◌∷◌, ◌++◌, drop, take};
+ghost use Rattle.std.specs.Prelude.{◌≡◌, ◌<◌, ◌≤◌, [], ◌∷◌, ◌++◌, drop};
 ghost use Rattle.std.specs.List.{list_any};
 ghost use Rattle.arrayvec.specs.ArrayVec.{array_vec_len};
 ghost use Rattle.reader.specs.Seen.{begins};
@@ -44,15 +44,6 @@ impl Seen {
             .iter()
             .skip(base)
             .any(|at| stands_at(bytes, *at, name))
-    }
-
-    // Forgets the names from `base` on, unless they are of children.
-    pub(crate) fn keep_children(&mut self, base: usize, children: bool)
-        ensures { self.new.at.items ≡ cond children self.old.at.items (take base self.old.at.items) }
-    {
-        if !children {
-            self.at.truncate(base);
-        }
     }
 
     // One name more.

@@ -143,13 +143,13 @@ pub fn set32(bytes: &mut Vec<u8>, at: usize, n: u32) {
 }
 
 // The number of nodes, or the number and the place of the refusal.
+// A refusal is a number here, since that is what a user sees and what the documents list.
 pub type Verdict = Result<usize, (u32, usize)>;
 
 pub fn verdict(bytes: &[u8]) -> Verdict {
-    match read(bytes) {
-        Ok(flat) => Ok(flat.counts().nodes),
-        Err(refusal) => Err((refusal.number(), refusal.place())),
-    }
+    read(bytes)
+        .map(|flat| flat.counts().nodes)
+        .map_err(|refusal| (refusal.number(), refusal.place()))
 }
 
 pub fn blob_of(heap: Global, parts: &[Part]) -> Result<Vec<u8>, AllocError> {

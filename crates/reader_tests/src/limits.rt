@@ -4,7 +4,7 @@ use Part::{Begin, End, Finish, Property};
 use std::alloc::{AllocError, Global};
 use std::test::Fail;
 
-// Three letters that differ for numbers below 4,096.
+// Three letters that differ for numbers below 4,096. Each cast is of a number below 16.
 fn name_of(i: usize) -> [u8; 3] {
     let a = b'a' + (i / 256 % 16) as u8;
     let b = b'a' + (i / 16 % 16) as u8;

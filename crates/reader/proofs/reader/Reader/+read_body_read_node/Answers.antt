@@ -1,4 +1,4 @@
-use Rattle.std.proofs.Common.{◌≡◌, ◌+◌, ◌≤◌, true, false, [], ◌∷◌, ◌++◌, length, drop, sym, ap, ◌∙◌, subst, arith}
+use Rattle.std.proofs.Common.{◌≡◌, ◌+◌, ◌≤◌, true, false, [], ◌∷◌, ◌++◌, length, cond, take, drop, sym, ap, ◌∙◌, subst, arith}
 use Rattle.std.specs.Option.{ok_or}
 use Rattle.std.proofs.lemmas.Result.{err_from_is_err_and}
 use Rattle.std.proofs.lemmas.List.{take_all}
@@ -11,9 +11,9 @@ use Rattle.reader.specs.Seen.{Spells}
 use Rattle.reader.specs.Verdict.{opened, kids, verdict}
 use Rattle.reader.proofs.Begun.{among-has}
 use Rattle.reader.proofs.Noting.{push-named, node-stands}
-use Rattle.reader.proofs.Passing.{stepped, unstepped, node_bad, node-used, node_over, node-entered, counted, uncounted, kin-named, named_then, passed-node}
+use Rattle.reader.proofs.Passing.{stepped, unstepped, node_bad, node-used, node_over, node-entered, counted, uncounted, forgotten, kept, kin-named, named_then, passed-node}
 use Rattle.reader.proofs.reader.Reader.+read_body_read_node.Goals as goal
-use Rattle.reader.proofs.reader.Reader.+read_body_read_node.Goals.{read_node-then-not-is_node_name-via-then-not-is_node_name, read_node-then-not-is_node_name-via-else-not-is_node_name+then-has}
+use Rattle.reader.proofs.reader.Reader.+read_body_read_node.Goals.{read_node-then-not-frame, read_node-else-not-frame, read_node-then-not-is_node_name-via-then-not-is_node_name, read_node-then-not-is_node_name-via-else-not-is_node_name+then-has}
 
 pub read_body-returns-in_err-step : goal.read_body-returns-in_err-step
 read_body-returns-in_err-step t c =
@@ -106,7 +106,12 @@ read_node-returns-then-not-is_node_name t c = λ ns s gs.
     let r = c.args.self.now in
     let f = c.args.frame in
     let g = opened f.path f.children ns in
-    let k = kin-named r.blob.bytes.now f.base f.path f.children ns r.seen.at.items c.keep_children.new.self.at.items c.requires.above c.keep_children.ensures s in
+    let o : c.if-not-frame.self.1.1.0.at.items ≡ cond f.children r.seen.at.items (take f.base r.seen.at.items) =
+    (elim c.if-not-frame.branch [
+      | read_node-then-not-frame w ↦ forgotten f.children f.base _ _ w.if-not-frame.true (ap (λ x. x.1.1.0.at.items) w.self-is ∙ w.truncate.ensures.items)
+      | read_node-else-not-frame w ↦ kept f.children f.base _ _ w.if-not-frame.false (ap (λ x. x.1.1.0.at.items) w.self-is)
+    ]) in
+    let k = kin-named r.blob.bytes.now f.base f.path f.children ns r.seen.at.items _ c.requires.above o s in
     let here = node-stands r.blob.bytes.now r.blob.layout c.args.at c.args.name.now _ c.requires.token in
     let h = among-has r.blob.bytes.now c.args.name.now _ _ here.full k.spells in
     elim c.then-not-is_node_name.branch [
@@ -122,7 +127,12 @@ read_node-returns-in_err-self t c =
     let e = err_from_is_err_and c.from_residual.result c.from_residual.ensures.1 in
     let u = uncounted _ _ _ _ (sym c.in_err-self.was ∙ c.ok_or.ensures.value ∙ ap (λ o. ok_or o (Limit c.args.at)) c.adding_node.ensures) in
     rw (e.1, e.2, u.1) (λ ns s gs.
-    let k = kin-named r.blob.bytes.now f.base f.path f.children ns r.seen.at.items c.keep_children.new.self.at.items c.requires.above c.keep_children.ensures s in
+    let o : c.if-not-frame.self.1.1.0.at.items ≡ cond f.children r.seen.at.items (take f.base r.seen.at.items) =
+    (elim c.if-not-frame.branch [
+      | read_node-then-not-frame w ↦ forgotten f.children f.base _ _ w.if-not-frame.true (ap (λ x. x.1.1.0.at.items) w.self-is ∙ w.truncate.ensures.items)
+      | read_node-else-not-frame w ↦ kept f.children f.base _ _ w.if-not-frame.false (ap (λ x. x.1.1.0.at.items) w.self-is)
+    ]) in
+    let k = kin-named r.blob.bytes.now f.base f.path f.children ns r.seen.at.items _ c.requires.above o s in
     let here = node-stands r.blob.bytes.now r.blob.layout c.args.at c.args.name.now _ c.requires.token in
     let h = among-has r.blob.bytes.now c.args.name.now _ _ here.full k.spells in
     node_over r c.args.at c.args.next (opened f.path f.children ns) gs c.args.name.now c.requires.token (sym c.is_node_name.ensures ∙ c.if-not-is_node_name.false) (sym h ∙ sym c.has.ensures ∙ c.if-has.false) u.0)
@@ -132,10 +142,15 @@ read_node-returns t c = λ ns s.
     let r = c.args.self.now in
     let f = c.args.frame in
     let g = opened f.path f.children ns in
-    let k = kin-named r.blob.bytes.now f.base f.path f.children ns r.seen.at.items c.keep_children.new.self.at.items c.requires.above c.keep_children.ensures s in
+    let o : c.if-not-frame.self.1.1.0.at.items ≡ cond f.children r.seen.at.items (take f.base r.seen.at.items) =
+    (elim c.if-not-frame.branch [
+      | read_node-then-not-frame w ↦ forgotten f.children f.base _ _ w.if-not-frame.true (ap (λ x. x.1.1.0.at.items) w.self-is ∙ w.truncate.ensures.items)
+      | read_node-else-not-frame w ↦ kept f.children f.base _ _ w.if-not-frame.false (ap (λ x. x.1.1.0.at.items) w.self-is)
+    ]) in
+    let k = kin-named r.blob.bytes.now f.base f.path f.children ns r.seen.at.items _ c.requires.above o s in
     let here = node-stands r.blob.bytes.now r.blob.layout c.args.at c.args.name.now _ c.requires.token in
     let h = among-has r.blob.bytes.now c.args.name.now _ _ here.full k.spells in
-    let p = push-named r.blob.bytes.now f.base _ c.args.name.now _ c.keep_children.new.self.at.items c.push.new.self.at.items k.above c.push.ensures k.spells here in
+    let p = push-named r.blob.bytes.now f.base _ c.args.name.now _ _ c.push.new.self.at.items k.above c.push.ensures k.spells here in
     let n = named_then r.blob.bytes.now f.base r.seen.at.items _ _ _ _ k p in
     let m = counted _ _ _ _ (sym c.in_ok-self.was ∙ c.ok_or.ensures.value ∙ ap (λ o. ok_or o (Limit c.args.at)) c.adding_node.ensures) in
     passed-node _ _ r.blob c.read_body.new.self c.args.at c.args.next _ _ _ c.read_body.result c.read_body.ensures (omega arith)

@@ -1,6 +1,6 @@
 use Rattle.std.proofs.Common.{◌≡◌, ◌-◌, ◌≤◌}
 use Rattle.reader.specs.Handing.{ahead}
-use Rattle.reader.proofs.cursor.Tokens.advance.Given as goal
+use Rattle.reader.proofs.cursor.TokensIterator.next.Given as goal
 
 abbrev pub invariant-loop-step : goal.invariant-loop-step
 invariant-loop-step l =
