@@ -15,7 +15,7 @@ fn refusal(bytes: &[u8]) -> Option<Refusal> {
     check_header(bytes).err()
 }
 
-// What a token is, with the lengths of its name and its value.
+// What a token is, with the lengths of its name and its value, which the tests compare.
 #[derive(Clone, Copy, PartialEq, Eq, Debug)]
 enum Kind {
     Begin { name: usize },

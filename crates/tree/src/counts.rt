@@ -14,7 +14,7 @@ pub const MAX_VALUE: usize = 4096;
 
 pub const MAX_WEIGHT: usize = 24576;
 
-// What the limits count.
+// What the limits count. Their bounds are no ghost fields, since then each definition that makes one would carry proofs.
 #[derive(Clone, Copy, PartialEq, Eq, Debug)]
 pub struct Counts {
     pub nodes: usize,
