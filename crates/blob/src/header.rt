@@ -27,11 +27,11 @@ const STRUCTURE_ALIGN: usize = 4;
 // Byte offsets of the header's numbers.
 const AT_MAGIC: usize = 0;
 
-const AT_TOTAL: usize = 4;
+pub const AT_TOTAL: usize = 4;
 
 const AT_STRUCTURE: usize = 8;
 
-const AT_STRINGS: usize = 12;
+pub const AT_STRINGS: usize = 12;
 
 const AT_RESERVATION: usize = 16;
 
@@ -41,9 +41,9 @@ const AT_COMPATIBLE: usize = 24;
 
 const AT_BOOT: usize = 28;
 
-const AT_STRINGS_SIZE: usize = 32;
+pub const AT_STRINGS_SIZE: usize = 32;
 
-const AT_STRUCTURE_SIZE: usize = 36;
+pub const AT_STRUCTURE_SIZE: usize = 36;
 
 // Bytes that have room for a header.
 #[derive(Clone, Copy)]

@@ -8,9 +8,14 @@ use crate::text::text_at;
 use crate::types::{Step, Tag, Token};
 use tree::numbers::rounded4;
 
-const TOKEN_SIZE: usize = 4;
+pub const TOKEN_SIZE: usize = 4;
 // A property's token, its value's length and its name's offset.
-const PROPERTY_SIZE: usize = 12;
+pub const PROPERTY_SIZE: usize = 12;
+
+// Where these two are in a property.
+pub const AT_LENGTH: usize = 4;
+
+pub const AT_NAME: usize = 8;
 
 impl<'a> Blob<'a> {
     #[tactic(auto, unfolding(crate::specs::Tokens::begin_at))]
@@ -38,12 +43,12 @@ impl<'a> Blob<'a> {
         if rest < PROPERTY_SIZE {
             return None;
         }
-        let len = be32_at(self.bytes, p + 4) as usize;
+        let len = be32_at(self.bytes, p + AT_LENGTH) as usize;
         let padded = rounded4(len);
         if padded > rest - PROPERTY_SIZE {
             return None;
         }
-        let offset = be32_at(self.bytes, p + 8) as usize;
+        let offset = be32_at(self.bytes, p + AT_NAME) as usize;
         let name = text_at(
             self.bytes,
             self.layout.strings + offset,

@@ -87,6 +87,7 @@ impl TryFrom<u32> for Tag {
 
     ghost try_from_gives = { λ n r. (result_ok r ≡ tag_of n) × IfErr r (λ e. e.0 ≡ n) };
 
+    // Each number stands once more, since a case has its number and no number leads back to its case.
     fn try_from(number: u32) -> Result<Tag, UnknownTag> {
         match number {
             1 => Ok(Tag::Begin),

@@ -31,6 +31,7 @@ pub fn largest_phandle<R: Readable>(tree: &R) -> Result<u32, Refusal>
 {
     let mut nodes = Nodes::new(tree);
     let mut best: u32 = 0;
+    // The cursor may refuse, so it is no iterator.
     while let Some(path) = nodes.next()? {
         best = best.max(phandle_at(tree, &path)?.unwrap_or(0));
     }
@@ -51,6 +52,7 @@ pub fn node_with_phandle<R: Readable>(
         return Err(Refusal::Short);
     }
     let mut nodes = Nodes::new(tree);
+    // The cursor may refuse, so it is no iterator.
     while let Some(path) = nodes.next()? {
         if phandle_at(tree, &path)? == Some(number) {
             let n = path.len();

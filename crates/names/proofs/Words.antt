@@ -1,4 +1,4 @@
--- Words of names: the loops that look for a byte or for the end of a run, and a node name by its first run. Assumes nothing.
+-- Words of names: the first place of a byte, the end of a run, and a node name by its first run. Assumes nothing.
 use Rattle.std.proofs.Common.{◌≡◌, ℕ, suc, ◌+◌, ◌-◌, ◌<◌, ◌≤◌, Bool, true, false, not, ◌&&◌, ◌==◌, eqb, leb, List, [], ◌∷◌, length, get_or, take, drop, sym, refl, ap, ◌∙◌, ⊎_elim, add-one, one-add, arith}
 use Rattle.std.specs.List.{list_all, position, position_or_len, prefix_len}
 use Rattle.std.specs.Option.{unwrap_or}

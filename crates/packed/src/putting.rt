@@ -7,6 +7,7 @@ ghost use Rattle.splices.specs.Splices.{written};
 ghost use Rattle.tree.specs.Numbers.{bytes32, pad4};
 
 use crate::region::STRUCTURE_START;
+use blob::header::{AT_STRINGS, AT_STRINGS_SIZE, AT_STRUCTURE_SIZE, AT_TOTAL};
 use blob::types::Tag;
 use splices::lent::Lent;
 use splices::put;
@@ -87,8 +88,8 @@ pub fn put_sizes(xs: &mut [u8], structure: usize, strings: usize)
     ensures { Resized xs.old structure strings xs.new }
 {
     // The lengths are proved to fit; `try_from` would add a refusal that cannot come.
-    put32(xs, 4, (STRUCTURE_START + structure + strings) as u32);
-    put32(xs, 12, (STRUCTURE_START + structure) as u32);
-    put32(xs, 32, strings as u32);
-    put32(xs, 36, structure as u32);
+    put32(xs, AT_TOTAL, (STRUCTURE_START + structure + strings) as u32);
+    put32(xs, AT_STRINGS, (STRUCTURE_START + structure) as u32);
+    put32(xs, AT_STRINGS_SIZE, strings as u32);
+    put32(xs, AT_STRUCTURE_SIZE, structure as u32);
 }

@@ -7,6 +7,7 @@ ghost use Rattle.tape.specs.Tapes.{Counted, Here, On, Reads, nth, properties_at,
 use crate::region::{Region, STRUCTURE_START};
 use blob::numbers::be32_at;
 use blob::text::text_at;
+use blob::tokens::{AT_LENGTH, AT_NAME, PROPERTY_SIZE, TOKEN_SIZE};
 use blob::types::Tag;
 use names::names::find;
 use tape::{Head, Mark, Spot};
@@ -44,10 +45,9 @@ impl Packed<'_> {
     {
         let mut at = s.at;
         let mut depth = s.property;
-        // A loop on places: no plainer as a chain over chunks, since the place itself is answered.
         // The tokens say how far it goes, and no index is counted.
         while be32_at(self.region.bytes, at) == Tag::End as u32 {
-            at += 4;
+            at += TOKEN_SIZE;
             depth -= 1;
         }
         Begin { depth, at }
@@ -59,7 +59,7 @@ impl Packed<'_> {
         requires at { at ≡ begin_of (nodes_of self.now.region) s.node }
         ensures { result ≡ length (nth (nodes_of self.now.region) s.node).name }
     {
-        let from = at + 4;
+        let from = at + TOKEN_SIZE;
         let to = STRUCTURE_START + self.region.structure;
         find(&self.region.bytes[from..to], 0)
     }
@@ -70,7 +70,7 @@ impl Packed<'_> {
         ensures { result.now ≡ (nth (nodes_of self.now.region) s.node).name }
     {
         let b = self.begin(s);
-        let from = b.at + 4;
+        let from = b.at + TOKEN_SIZE;
         let to = STRUCTURE_START + self.region.structure;
         text_at(self.region.bytes, from, to).unwrap()
     }
@@ -84,11 +84,10 @@ impl Packed<'_> {
     {
         let mut at = from;
         let mut count = 0;
-        // A loop on places: how far each step goes is read there.
         // Each token says where the next one is.
         while be32_at(self.region.bytes, at) == Tag::Property as u32 {
-            let n = be32_at(self.region.bytes, at + 4) as usize;
-            at += 12 + rounded4(n);
+            let n = be32_at(self.region.bytes, at + AT_LENGTH) as usize;
+            at += PROPERTY_SIZE + rounded4(n);
             count += 1;
         }
         Run { count, end: at }
@@ -101,7 +100,7 @@ impl Packed<'_> {
     {
         let b = self.begin(s);
         let n = self.name_length(s, b.at);
-        let from = b.at + 4 + rounded4(n + 1);
+        let from = b.at + TOKEN_SIZE + rounded4(n + 1);
         let run = self.run(s, from);
         let first = Mark {
             node: s.node,
@@ -127,12 +126,12 @@ impl Packed<'_> {
         requires { On (nodes_of self.now.region) (mark_of (nodes_of self.now.region)) m }
         ensures { result ≡ mark_of (nodes_of self.now.region) m.node (m.number + 1) }
     {
-        let n = be32_at(self.region.bytes, m.at + 4) as usize;
+        let n = be32_at(self.region.bytes, m.at + AT_LENGTH) as usize;
         Mark {
             node: m.node,
             number: m.number + 1,
             property: 0,
-            at: m.at + 12 + rounded4(n),
+            at: m.at + PROPERTY_SIZE + rounded4(n),
         }
     }
 
@@ -142,7 +141,7 @@ impl Packed<'_> {
         ensures { result.now ≡ (property_of (nodes_of self.now.region) m.node m.number).0 }
     {
         let strings = STRUCTURE_START + self.region.structure;
-        let from = strings + be32_at(self.region.bytes, m.at + 8) as usize;
+        let from = strings + be32_at(self.region.bytes, m.at + AT_NAME) as usize;
         let end = strings + self.region.strings;
         text_at(self.region.bytes, from, end).unwrap()
     }
@@ -152,8 +151,8 @@ impl Packed<'_> {
         requires { On (nodes_of self.now.region) (mark_of (nodes_of self.now.region)) m }
         ensures { result.now ≡ (property_of (nodes_of self.now.region) m.node m.number).1 }
     {
-        let from = m.at + 12;
-        let to = from + be32_at(self.region.bytes, m.at + 4) as usize;
+        let from = m.at + PROPERTY_SIZE;
+        let to = from + be32_at(self.region.bytes, m.at + AT_LENGTH) as usize;
         &self.region.bytes[from..to]
     }
 

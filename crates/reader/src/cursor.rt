@@ -23,6 +23,7 @@ impl<'a> Iterator for Tokens<'a> {
 
     // The next item, or nothing where the end of the block, or a fault, has been reached.
     fn next(&mut self) -> Option<Item<'a>> {
+        // Each token says where the next one is.
         while let Some(step) = self.blob.token_at(self.next) {
             let at = self.next;
             self.next = step.next;

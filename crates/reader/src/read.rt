@@ -16,6 +16,7 @@ use crate::seen::Seen;
 use blob::blob::Blob;
 use blob::header::check_header;
 use blob::numbers::be32_at;
+use blob::tokens::{AT_NAME, TOKEN_SIZE};
 use blob::types::{Refusal, Token};
 use names::names::{is_node_name, is_property_name};
 use tree::counts::Counts;
@@ -50,7 +51,7 @@ impl<'a> Reader<'a> {
             .counts
             .adding_property(name.len(), value.len())
             .ok_or(Refusal::Limit(at))?;
-        let offset = self.blob.layout.strings + be32_at(bytes, at + 8) as usize;
+        let offset = self.blob.layout.strings + be32_at(bytes, at + AT_NAME) as usize;
         self.seen.push(offset);
         Ok(())
     }
@@ -82,7 +83,7 @@ impl<'a> Reader<'a> {
             .counts
             .adding_node(path, name.len())
             .ok_or(Refusal::Limit(at))?;
-        self.seen.push(at + 4);
+        self.seen.push(at + TOKEN_SIZE);
         self.read_body(next, path)
     }
 

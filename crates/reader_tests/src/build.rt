@@ -36,7 +36,7 @@ fn put32(out: &mut Vec<u8>, n: u32) -> Result<(), AllocError> {
     out.extend_from_slice(&n.to_be_bytes())
 }
 
-// Bytes, and zero bytes up to a multiple of 4.
+// Bytes, and zero bytes up to a multiple of 4: counted here, so that no test rests on the rounding that it tests.
 fn put_padded(out: &mut Vec<u8>, bytes: &[u8]) -> Result<(), AllocError> {
     out.extend_from_slice(bytes)?;
     let zeros = [0; 3];

@@ -29,6 +29,7 @@ fn totals_cut(rt: HostRuntime) -> Result<(), Fail> {
     }
     let end = bytes.len().min(1000);
     for n in 40..end {
+        // Below 1,000.
         set32(&mut bytes, 4, n as u32);
         assert_eq!(rt; verdict(bytes.as_slice()), Err((12, 0)));
     }

@@ -1,4 +1,4 @@
-// Lent elements of which the first ones are in use.
+// Lent elements of which the first ones are in use. The memory is the caller's, since the core has no heap.
 ghost use Rattle.std.specs.Prelude.{◌≡◌, ◌+◌, ◌-◌, ◌≤◌, ◌++◌, length, take, drop};
 ghost use Rattle.std.specs.List.{between};
 ghost use Rattle.splices.specs.Splices.{spliced_in, spliced_out, written};
