@@ -63,6 +63,11 @@ def same_shape(least=14):
     return [x for v in at.values() if len(v) > 1 for x in v]
 
 
+def in_three(at):
+    """What three or more functions of a crate have, each with the first of them; a key begins with the crate."""
+    return [(min(v)[0], min(v)[1], "%d functions: %s" % (len(v), ", ".join(k[1:]))) for k, v in at.items() if len(v) >= 3]
+
+
 def repeated_clauses():
     at = defaultdict(set)
     for f, n, name, sig, _ in functions():
@@ -70,7 +75,7 @@ def repeated_clauses():
             m = CLAUSE.search(s)
             if m and "requires" in s:
                 at[(f.split("/")[1], re.sub(r"\b(self|t|m|x|seen|counts|trail)\.(old|now)", "v", m.group(1)))].add((f, n, name))
-    return [(sorted(v)[0][0], sorted(v)[0][1], "%d functions: %s" % (len(v), k[1])) for k, v in at.items() if len(v) >= 3]
+    return in_three(at)
 
 
 def travelling():
@@ -83,7 +88,7 @@ def travelling():
         for i, p in enumerate(ps):
             for q in ps[i + 1 :]:
                 at[(f.split("/")[1], p, q)].add((f, n, name))
-    return [(sorted(v)[0][0], sorted(v)[0][1], "%d functions: %s, %s" % (len(v), k[1], k[2])) for k, v in at.items() if len(v) >= 3]
+    return in_three(at)
 
 
 SEARCHES = [
