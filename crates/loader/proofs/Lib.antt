@@ -1,3 +1,4 @@
+pub mod Buffers
 pub mod Growing
 pub mod Steps
 pub mod Trails

@@ -1,7 +1,6 @@
 -- One token of a blob after the other, as writes to a store. Assumes nothing.
 use Rattle.std.proofs.Common.{◌≡◌, ℕ, ◌^◌, ◌<◌, ◌≤◌, true, eqb, leb, List, [], ◌∷◌, ◌++◌, length, Some, Ok, Err, drop, Result, sym, refl, ap, ◌∙◌, subst, append_assoc, append-nil, length-append, arith}
 use Rattle.std.proofs.lemmas.Bool.{and_parts, cond-true, leb-true, le-leb, true≢false}
-use Rattle.std.proofs.lemmas.Grind.{common_steps}
 use Rattle.store.specs.declared.Refusal.{Refusal}
 use Rattle.store.specs.declared.Refusal.TheVariants.{Limit}
 use Rattle.names.specs.Names.{each, node_name}
@@ -19,6 +18,7 @@ use Rattle.reader.specs.Reading.{entries, innermost, outer}
 use Rattle.loader.specs.Filling.{BlobFeeds, Loads}
 use Rattle.loader.specs.Loading.{root_tree, grow}
 use Rattle.loader.specs.Writing.{answered, written, onward, then_run, run}
+use Rattle.loader.proofs.Trails.{some_parent}
 use Rattle.loader.proofs.Growing.{grown, Ready, ready, node-granted, property-granted, grow_last, root-stays}
 
 -- each path's parent is the next one, and the last is the root's
@@ -200,10 +200,6 @@ skips at xs path m boot es g = record { ls = g.ls; paths = g.paths; split = g.sp
 
 some_child : (p n : Bytes) → 0 < length (child p n)
 some_child p n = omega (arith, length-append (stem p) (47 ∷ n))
-
-some_parent : (p : Bytes) → 0 < length (parent p)
-unfolding parent
-some_parent p = grind (arith, common_steps)
 
 grown_none : (boot : ℕ) → holds (root_tree boot) ≡ holds (grow (root_tree boot) [])
 unfolding grow

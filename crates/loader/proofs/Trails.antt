@@ -1,8 +1,8 @@
--- Paths as a vector holds them. Assumes nothing.
-use Rattle.std.proofs.Common.{◌≡◌, ℕ, ◌+◌, ◌-◌, zero, suc, false, eqb, [], ◌∷◌, length, get_or, take, Ok, Err, Result, sym, refl, ap, ◌∙◌, ⊎_elim, arith}
-use Rattle.std.proofs.lemmas.Bool.{cases_Bool, cond-true, cond-false, true≢false}
-use Rattle.std.specs.Result.{IsOk, OnOk, result_or}
-use Rattle.std.proofs.lemmas.List.{length-take-le}
+-- Paths in the front of a buffer. Assumes nothing.
+use Rattle.std.proofs.Common.{◌≡◌, ℕ, ◌+◌, ◌-◌, ◌<◌, ◌≤◌, zero, suc, false, eqb, [], ◌∷◌, length, get_or, take, sym, ap, ◌∙◌, ⊎_elim, arith}
+use Rattle.std.proofs.lemmas.Bool.{cases_Bool, cond-true, cond-false}
+use Rattle.std.proofs.lemmas.Grind.{common_steps}
+use Rattle.std.proofs.lemmas.List.{length-take, length-take-le}
 use Rattle.names.specs.Paths.{root, leaf, parent}
 use Rattle.tree.specs.Places.{Bytes}
 
@@ -36,7 +36,10 @@ parent_slash p e =
     go [] (suc n) e f = e
     go (x ∷ xs) (suc n) e f = e
 
--- a text that fits is written
-pub extended : {E F : Type 0} (r : Result (Unit {0}) E) (d : Result (Unit {0}) F) (P : Type 0) → IsOk r → OnOk r P → (result_or r d ≡ Ok tt) × P
-extended (Ok u) d P h p = (refl, p)
-extended (Err e) d P h p = absurd (true≢false (sym h))
+-- how long it is
+pub some_parent : (p : Bytes) → 0 < length (parent p)
+unfolding parent
+some_parent p = grind (arith, common_steps)
+
+pub parent_within : (p : Bytes) → get_or p 0 0 ≡ 47 → length (parent p) ≤ length p
+parent_within p e = let a = ap length (parent_front p e) in let b = length-take (length (parent p)) p in omega arith

@@ -1,3 +1,4 @@
 pub mod Filling
 pub mod Loading
+pub mod Trails
 pub mod Writing

@@ -1,6 +1,7 @@
 // One write for each token.
 ghost use Rattle.std.specs.Prelude.{◌≡◌, drop, OnOk};
 ghost use Rattle.loader.specs.Filling.{Loads};
+ghost use Rattle.loader.specs.Trails.{path_on};
 ghost use Rattle.loader.specs.Writing.{answered, written, onward, run};
 ghost use Rattle.names.specs.Paths.{root};
 ghost use Rattle.reader.specs.Handing.{ahead, item_of};
@@ -13,9 +14,9 @@ use store::{Refusal, Store};
 
 // Writes one item in the open node at the trail's path, and goes on to a node that begins or back from one that ends.
 fn write_item<S: Store>(store: &mut S, trail: &mut Trail, item: Item<'_>) -> Result<(), Refusal>
-    ensures answer { result ≡ answered (item_of item.entry) trail.old (S.Readable.meaning store.old) }
-    ensures after { S.Readable.meaning store.new ≡ settled result (written (item_of item.entry) trail.old (S.Readable.meaning store.old)) (S.Readable.meaning store.old) }
-    ensures path { OnOk result (trail.new ≡ onward (item_of item.entry) trail.old) }
+    ensures answer { result ≡ answered (item_of item.entry) (path_on trail.old) (S.Readable.meaning store.old) }
+    ensures after { S.Readable.meaning store.new ≡ settled result (written (item_of item.entry) (path_on trail.old) (S.Readable.meaning store.old)) (S.Readable.meaning store.old) }
+    ensures path { OnOk result (path_on trail.new ≡ onward (item_of item.entry) (path_on trail.old)) }
 {
     match item {
         Item::Begin { at: _, name } => {

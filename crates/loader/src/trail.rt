@@ -1,69 +1,65 @@
 // The path of the innermost open node.
-ghost use Rattle.std.specs.Prelude.{◌≡◌, cond, nat_le, [], ◌∷◌, length};
+ghost use Rattle.std.specs.Prelude.{◌≡◌, ◌≤◌, cond, nat_le, [], ◌∷◌, length, slice_index_or};
 ghost use Rattle.names.specs.Paths.{root, child, parent};
 ghost use Rattle.store.specs.Calls.{tested};
 ghost use Rattle.store.specs.declared.Refusal.TheVariants.{Limit};
 
-use arrayvec::ArrayVec;
 use names::paths::{SLASH, parent_of, stem_len};
-use std::marker::Model;
 use store::Refusal;
 use tree::counts::MAX_PATH;
 
-// The path begins with a slash.
-#[derive(Drop)]
+// The first `len` bytes are the path. It begins with a slash and has at most 255 bytes.
+#[derive(Clone, Copy)]
 pub struct Trail {
-    path: ArrayVec<u8, MAX_PATH>,
-}
-
-impl Model for Trail {
-    ghost use Rattle.std.specs.Prelude.{◌≡◌, ℕ, List, slice_index_or};
-
-    ghost Value = { List ℕ };
-
-    ghost view = { λ t. t.path.items };
-
-    ghost invariant = { λ t. slice_index_or t.path.items 0 0 ≡ 47 };
+    pub bytes: [u8; 256],
+    pub len: usize,
+    pub ghost least: { 1 ≤ len },
+    pub ghost most: { len ≤ 255 },
+    pub ghost slash: { slice_index_or bytes 0 0 ≡ 47 },
+    pub ghost held: { len ≤ length bytes },
 }
 
 impl Trail {
+    ghost use Rattle.loader.specs.Trails.{path_on};
+
     // At the root.
     pub(crate) fn new() -> Trail
-        ensures { result ≡ root }
+        ensures { path_on result ≡ root }
     {
-        let mut path = ArrayVec::new();
-        path.push(SLASH);
-        Trail { path }
+        Trail {
+            bytes: [SLASH; 256],
+            len: 1,
+        }
     }
 
     // Goes on to a child, unless its path is too long.
     pub(crate) fn enter(&mut self, name: &[u8]) -> Result<(), Refusal>
-        ensures answer { result ≡ tested ((nat_le (length (child self.old name.now)) 255, Limit) ∷ []) tt }
-        ensures path { self.new ≡ cond (nat_le (length (child self.old name.now)) 255) (child self.old name.now) self.old }
+        ensures answer { result ≡ tested ((nat_le (length (child (path_on self.old) name.now)) 255, Limit) ∷ []) tt }
+        ensures path { path_on self.new ≡ cond (nat_le (length (child (path_on self.old) name.now)) 255) (child (path_on self.old) name.now) (path_on self.old) }
     {
-        let stem = stem_len(&self.path);
-        if name.len() >= MAX_PATH - stem {
+        let from = stem_len(self.path());
+        if from + 1 + name.len() > MAX_PATH {
             return Err(Refusal::Limit);
         }
-        self.path.truncate(stem);
-        self.path.push(SLASH);
-        self.path
-            .try_extend_from_slice(name)
-            .or(Err(Refusal::Limit))
+        let to = from + 1 + name.len();
+        self.bytes[from] = SLASH;
+        self.bytes[from + 1..to].copy_from_slice(name);
+        self.len = to;
+        Ok(())
     }
 
     // Goes back to the parent; from the root nowhere.
     pub(crate) fn leave(&mut self)
-        ensures { self.new ≡ parent self.old }
+        ensures { path_on self.new ≡ parent (path_on self.old) }
     {
-        let len = parent_of(&self.path).len();
-        self.path.truncate(len);
+        let len = parent_of(self.path()).len();
+        self.len = len;
     }
 
     // The path itself.
     pub(crate) fn path(&self) -> &[u8]
-        ensures { result.now ≡ self.now }
+        ensures { result.now ≡ path_on self.now }
     {
-        &self.path
+        &self.bytes[0..self.len]
     }
 }

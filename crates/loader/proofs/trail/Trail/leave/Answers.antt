@@ -1,17 +1,24 @@
-use Rattle.std.proofs.Common.{◌≡◌, length, take, get_or, ap, ◌∙◌}
+use Rattle.std.proofs.Common.{◌≡◌, length, take, ap, ◌∙◌, arith}
 use Rattle.names.specs.Paths.{parent}
-use Rattle.loader.proofs.Trails.{parent_front, parent_slash}
+use Rattle.loader.specs.Trails.{path_on}
+use Rattle.loader.proofs.Buffers.{parent-short, parent-front}
+use Rattle.loader.proofs.Trails.{some_parent}
 use Rattle.loader.proofs.trail.Trail.leave.Goals as goal
-use Rattle.loader.proofs.trail.Trail.leave.Goals.{After-truncate}
+use Rattle.loader.proofs.trail.Trail.leave.Goals.{After-parent_of-len}
 
--- what is left is the parent
-left : (c : After-truncate) → c.truncate.new.self.items ≡ parent c.self.inside.path.items
-left c =
-    let e = c.parent_of-len.ensures ∙ ap parent c.deref.ensures.0 in
-    c.truncate.ensures.items ∙ ap (λ p. take (length p) c.self.inside.path.items) e ∙ parent_front c.self.inside.path.items c.self.invariant
+-- how long the parent is
+left : (c : After-parent_of-len) → length c.parent_of-len.result.now ≡ length (parent (path_on c.args.self.now))
+left c = ap length (c.parent_of-len.ensures ∙ ap parent c.path.ensures)
 
 pub invariant_of-self : goal.invariant_of-self
-invariant_of-self c = ap (λ p. get_or p 0 0) (left (goal.at.invariant_of-self c).After-truncate) ∙ parent_slash c.self.inside.path.items c.self.invariant
+invariant_of-self c =
+    let e = left (goal.at.invariant_of-self c).After-parent_of-len in
+    let some = some_parent (path_on c.args.self.now) in
+    let short = parent-short c.args.self.now in
+    let most = c.args.self.now.most in
+    let held = c.args.self.now.held in
+    record { least = omega arith; most = omega arith; slash = c.args.self.now.slash; held = omega arith }
 
 pub returns : goal.returns
-returns c = left (goal.at.returns c).After-truncate ∙ ap parent c.self.view_is
+returns c =
+    ap (λ n. take n c.args.self.now.bytes) (left (goal.at.returns c).After-parent_of-len) ∙ parent-front c.args.self.now
