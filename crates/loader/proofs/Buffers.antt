@@ -1,5 +1,5 @@
 -- Writes into the buffer of a path. Assumes nothing.
-use Rattle.std.proofs.Common.{◌≡◌, ℕ, zero, suc, ◌+◌, ◌<◌, ◌≤◌, List, [], ◌∷◌, ◌++◌, length, get_or, take, drop, set, sym, refl, ap, ◌∙◌, append_assoc, arith}
+use Rattle.std.proofs.Common.{◌≡◌, ℕ, zero, suc, ◌+◌, ◌-◌, ◌<◌, ◌≤◌, max, List, [], ◌∷◌, ◌++◌, length, get_or, take, drop, set, sym, refl, ap, ◌∙◌, append_assoc, arith}
 use borrow.Rule.Slice.PartMut.{put_mid}
 use Rattle.std.proofs.lemmas.List.{take_more_set, drop-drop, drop-set-lt, take_at, length-append, length-take-le, get_or-take, take-take}
 use Rattle.names.specs.Paths.{parent}
@@ -32,10 +32,12 @@ path-some t = let l = length-take-le t.len t.bytes t.held in let a = t.least in 
 path-slash : (t : Trail) → get_or (path_on t) 0 0 ≡ 47
 path-slash t = let a = t.least in get_or-take t.len t.bytes 0 0 (omega arith) ∙ t.slash
 
--- what going back to the parent leaves
-pub parent-short : (t : Trail) → length (parent (path_on t)) ≤ t.len
-parent-short t = let a = parent_within (path_on t) (path-slash t) in let l = length-take-le t.len t.bytes t.held in omega arith
+-- what going back to the parent leaves: less, but for the root
+pub parent-short : (t : Trail) → length (parent (path_on t)) ≤ max 1 (t.len - 1)
+parent-short t = let a = parent_within (path_on t) in let l = length-take-le t.len t.bytes t.held in omega arith
 
 pub parent-front : (t : Trail) → take (length (parent (path_on t))) t.bytes ≡ parent (path_on t)
 parent-front t =
-    sym (take-take (length (parent (path_on t))) t.len t.bytes (parent-short t)) ∙ parent_front (path_on t) (path-slash t)
+    let a = parent-short t in
+    let b = t.least in
+    sym (take-take (length (parent (path_on t))) t.len t.bytes (omega arith)) ∙ parent_front (path_on t) (path-slash t)

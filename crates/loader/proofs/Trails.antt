@@ -1,5 +1,5 @@
 -- Paths in the front of a buffer. Assumes nothing.
-use Rattle.std.proofs.Common.{◌≡◌, ℕ, ◌+◌, ◌-◌, ◌<◌, ◌≤◌, zero, suc, false, eqb, [], ◌∷◌, length, get_or, take, sym, ap, ◌∙◌, ⊎_elim, arith}
+use Rattle.std.proofs.Common.{◌≡◌, ℕ, ◌+◌, ◌-◌, ◌<◌, ◌≤◌, max, zero, suc, false, eqb, [], ◌∷◌, length, get_or, take, sym, ap, ◌∙◌, ⊎_elim, arith}
 use Rattle.std.proofs.lemmas.Bool.{cases_Bool, cond-true, cond-false}
 use Rattle.std.proofs.lemmas.Grind.{common_steps}
 use Rattle.std.proofs.lemmas.List.{length-take, length-take-le}
@@ -41,5 +41,6 @@ pub some_parent : (p : Bytes) → 0 < length (parent p)
 unfolding parent
 some_parent p = grind (arith, common_steps)
 
-pub parent_within : (p : Bytes) → get_or p 0 0 ≡ 47 → length (parent p) ≤ length p
-parent_within p e = let a = ap length (parent_front p e) in let b = length-take (length (parent p)) p in omega arith
+pub parent_within : (p : Bytes) → length (parent p) ≤ max 1 (length p - 1)
+unfolding parent
+parent_within p = let l = length-take (length p - (length (leaf p) + 1)) p in grind (arith, common_steps)

@@ -15,6 +15,7 @@ invariant_of-self c =
     let e = left (goal.at.invariant_of-self c).After-parent_of-len in
     let some = some_parent (path_on c.args.self.now) in
     let short = parent-short c.args.self.now in
+    let least = c.args.self.now.least in
     let most = c.args.self.now.most in
     let held = c.args.self.now.held in
     record { least = omega arith; most = omega arith; slash = c.args.self.now.slash; held = omega arith }
