@@ -149,3 +149,13 @@ on-child p m (q, Some n) i = absurd i
 -- a property's name
 pub property-on : (p n : Bytes) → In n (property_on p (property_at p n))
 property-on p n = subst (In n) (sym (cond-true (bytes_eq p p) (n ∷ []) [] ((bytes_eq-Decides p p).1 refl))) (inl refl)
+
+pub on-property : (p m : Bytes) (k : Place) → In m (property_on p k) → k ≡ property_at p m
+on-property p m (q, None) i = absurd i
+on-property p m (q, Some n) i =
+    ⊎_elim
+    (λ t.
+    let e = (bytes_eq-Decides q p).0 t in
+    ⊎_elim (λ z. λ j. (e j, Some (sym z j))) absurd (subst (In m) (cond-true (bytes_eq q p) (n ∷ []) [] t) i))
+    (λ f. absurd (subst (In m) (cond-false (bytes_eq q p) (n ∷ []) [] f) i))
+    (cases_Bool (bytes_eq q p))
