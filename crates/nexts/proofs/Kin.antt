@@ -1,10 +1,10 @@
 -- The least of the names behind one, and the names of children and of properties. Assumes nothing.
-use Rattle.std.proofs.Common.{◌≡◌, ℕ, ◌+◌, Bool, true, false, cond, eqb, leb, List, [], ◌∷◌, map, Some, None, Option, Ordering, Less, Equal, Greater, sym, refl, ap, ◌∙◌, Bor}
+use Rattle.std.proofs.Common.{◌≡◌, ℕ, ◌+◌, ◌<◌, ◌≤◌, true, false, cond, eqb, leb, List, [], ◌∷◌, length, get_or, drop, Some, None, Option, sym, refl, ap, ◌∙◌, arith, Bool, map, Ordering, Less, Equal, Greater, Bor}
 use Rattle.std.specs.Cmp.Lexicographic.{lists_agrees, slice_partial_cmp}
 use Rattle.std.specs.List.{filter, fold, reduce}
 use Rattle.std.specs.Option.{option_map}
 use Rattle.std.specs.Ordering.{is_lt, is_some_and, min_by_ordering, nat_cmp, ordering_reverse}
-use Rattle.std.proofs.lemmas.Bool.{true≢false, false_from_ne_true, cond-true, cond-false}
+use Rattle.std.proofs.lemmas.Bool.{true≢false, cond-true, cond-false, le-leb, lt-leb, eq-eqb, ne_eqb, false_from_ne_true}
 use Rattle.names.specs.Orders.{name_order}
 use Rattle.names.proofs.Orders.{name_order_lem}
 use Rattle.tree.specs.Places.{Bytes}
@@ -14,6 +14,8 @@ use Rattle.tape.specs.declared.Spot.{Spot}
 use Rattle.tape.specs.Iters.{children_in, entries}
 use Rattle.tape.specs.Nodes.{Node, Property}
 use Rattle.nexts.specs.Kids.{kids, keys, shown_name}
+use Rattle.std.proofs.lemmas.List.{at_drop_more, at_drop_all}
+use Rattle.tape.specs.Tapes.{nowhere, nth}
 
 -- ---- the least of those behind a name
 
@@ -96,3 +98,32 @@ pub picks_lesser : (a b : Bor Bytes) (r : Ordering) → (min_by_ordering r a b).
 picks_lesser a b Less = refl
 picks_lesser a b Equal = refl
 picks_lesser a b Greater = refl
+
+-- ---- the names of children, one node further
+
+module _ (ns : List Node) (m i : ℕ) where
+  one : i < length ns → kids m (drop i ns) ≡ cond (leb (nth ns i).depth m) [] (cond (eqb (nth ns i).depth (m + 1)) ((nth ns i).name ∷ kids m (drop (i + 1) ns)) (kids m (drop (i + 1) ns)))
+  unfolding kids
+  one h = at_drop_more (kids m) ns i nowhere h
+
+  pub kids-end : length ns ≤ i → kids m (drop i ns) ≡ []
+  unfolding kids
+  kids-end h = at_drop_all (kids m) ns i h
+
+  pub kids-left : i < length ns → (nth ns i).depth ≤ m → kids m (drop i ns) ≡ []
+  kids-left h l = one h ∙ cond-true (leb (nth ns i).depth m) _ _ (le-leb _ _ l)
+
+  pub kids-child : i < length ns → (nth ns i).depth ≡ m + 1 → kids m (drop i ns) ≡ (nth ns i).name ∷ kids m (drop (i + 1) ns)
+  kids-child h l = one h ∙ cond-false (leb (nth ns i).depth m) _ _ (lt-leb _ _ (omega (arith, l))) ∙ cond-true _ _ _ (eq-eqb _ _ l)
+
+  pub kids-past : i < length ns → m < (nth ns i).depth → ((nth ns i).depth ≡ m + 1 → ⊥) → kids m (drop i ns) ≡ kids m (drop (i + 1) ns)
+  kids-past h l e = one h ∙ cond-false (leb (nth ns i).depth m) _ _ (lt-leb _ _ l) ∙ cond-false _ _ _ (ne_eqb _ _ e)
+
+module _ (xs : List Property) (i : ℕ) where
+  pub keys-end : length xs ≤ i → keys (drop i xs) ≡ []
+  unfolding keys
+  keys-end h = at_drop_all keys xs i h
+
+  pub keys-more : i < length xs → keys (drop i xs) ≡ (get_or xs i ([], [])).0 ∷ keys (drop (i + 1) xs)
+  unfolding keys
+  keys-more h = at_drop_more keys xs i ([], []) h

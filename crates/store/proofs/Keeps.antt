@@ -21,6 +21,9 @@ use Rattle.tree.proofs.Places.{place-order}
 pub same-is : (a b : Bytes) → bytes_eq a b ≡ true → a ≡ b
 same-is a b = (bytes_eq-Decides a b).0
 
+pub same_refl : (a : Bytes) → bytes_eq a a ≡ true
+same_refl a = (bytes_eq-Decides a a).1 refl
+
 pub cases-place : (l k : Place) → (l ≡ k) ⊎ (l ≡ k → ⊥)
 cases-place = decide place-order
 

@@ -80,3 +80,22 @@ least-only n A B (Some m) (Some k) f g s t =
 
 pub same-least : (n : Bytes) (ms ks : List Bytes) → ((l : Bytes) → Among l ms → Among l ks) → ((l : Bytes) → Among l ks → Among l ms) → least_after n ms ≡ least_after n ks
 same-least n ms ks f g = least-only n (λ l. Among l ms) (λ l. Among l ks) _ _ f g (least_law n ms) (least_law n ks)
+
+-- a name that is not before one of those behind n does not count
+pub worse : (n k x : Bytes) (ms : List Bytes) → Among x ms → later n x ≡ true → later k x ≡ false → least_after n (k ∷ ms) ≡ least_after n ms
+worse n k x ms a h w = least-only n (λ l. Among l (k ∷ ms)) (λ l. Among l (k ∷ ms)) _ _ (λ l b. b) (λ l b. b) (least_law n (k ∷ ms)) (go (least_after n ms) (least_law n ms))
+  where
+    go : (o : Option Bytes) → Least n (λ l. Among l ms) o → Least n (λ l. Among l (k ∷ ms)) o
+    go None s = absurd (true≢false (sym h ∙ s.missed refl x a))
+    go (Some m) s = record {
+      found = λ j e. let z = s.found j e in (inr z.0, z.1);
+      least = λ j l e b f. subst (λ y. later l y ≡ false) (some_one e) (⊎_elim (λ z. subst (λ y. later y m ≡ false) z (⊎_elim (λ t. absurd (beyond t)) (λ t. t) (cases_Bool (later k m)))) (λ c. s.least m l refl c f) b);
+      missed = λ e. absurd (some-none m e);
+    }
+      where
+        beyond : later k m ≡ true → ⊥
+        beyond t =
+            ⊎_elim
+            (λ q. true≢false (sym (later_trans x k m q t) ∙ s.least m x refl a h))
+            (λ q. true≢false (sym (subst (λ y. later y m ≡ true) (sym (later-only x k q w)) t) ∙ s.least m x refl a h))
+            (cases_Bool (later x k))

@@ -41,6 +41,10 @@ aside_end d ns j h = at_drop_all (aside d) ns j h
 aside-at : (d : ℕ) (ns : List Node) (j : ℕ) → j < length ns → aside d (drop j ns) ≡ leb (nth ns j).depth d
 aside-at d ns j h = at_drop_more (aside d) ns j nowhere h
 
+pub busy-none : (ns : List Node) (i : ℕ) → length (properties_at ns i) ≡ 0 → length ns ≤ i + 1 → false ≡ busy ns i
+busy-none ns i e h =
+    sym (or_from _ _ (ap not (eq-eqb (length (properties_at ns i)) 0 e)) (ap not (aside_end (nth ns i).depth ns (i + 1) h)))
+
 pub busy-next : (ns : List Node) (i : ℕ) → length (properties_at ns i) ≡ 0 → i + 1 < length ns → ltb (nth ns i).depth (nth ns (i + 1)).depth ≡ busy ns i
 busy-next ns i e h =
     let a = aside-at (nth ns i).depth ns (i + 1) h in
@@ -99,6 +103,9 @@ module _ (boot : ℕ) (ns : List Node) (v : valid boot ns ≡ true) (h : 0 < len
     module _ (i : ℕ) (l : i < length ns) (is : stem_at ns i ≡ stem (parent p)) (c : Counts) (cs : Counted ns c) where
       parent-there : look t (node_at (parent p)) ≡ Some []
       parent-there = look-node boot ns v (parent p) (parent-text p good) i l is
+
+      pub leaf-short : length (leaf p) ≤ 63
+      leaf-short = (node_names (leaf p) (path_splits p good not_the_root).2).2
 
       pub depth-short : length p ≤ 255 → (nth ns i).depth ≤ 255
       depth-short b =
@@ -307,6 +314,9 @@ module _ (boot : ℕ) (ns : List Node) (v : valid boot ns ≡ true) (h : 0 < len
 
       pub drop-after : meaning_of boot (less_node ns i) ≡ changed (meaning_of boot ns) (node_at p) None
       drop-after = after_is boot ns _ (node_at p) None h (omega (arith, not_first, length-append (take i ns) (drop (i + 1) ns), length-take-le i ns (omega (arith, l)))) drop-becomes
+
+      pub drop-bare : length (properties_at ns i) ≡ 0
+      drop-bare = ap length bare
 
 -- ---- properties
 

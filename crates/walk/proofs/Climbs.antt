@@ -1,14 +1,14 @@
 -- The turns of a walk. Assumes nothing.
-use Rattle.std.proofs.Common.{◌≡◌, ℕ, ◌+◌, ◌<◌, ◌≤◌, Bool, true, ◌||◌, eqb, leb, ◌⊎◌, [], ◌∷◌, ◌++◌, length, take, drop, is_some, Some, None, Ok, Err, Option, Result, sym, refl, ap, ◌∙◌, inl, inr, ⊎_elim, arith, length-append}
+use Rattle.std.proofs.Common.{◌≡◌, ℕ, ◌+◌, ◌-◌, ◌<◌, ◌≤◌, Bool, true, cond, ◌||◌, eqb, leb, ◌⊎◌, [], ◌∷◌, ◌++◌, length, take, drop, is_some, Some, None, Ok, Err, Option, Result, sym, refl, ap, ◌∙◌, inl, inr, ⊎_elim, append_assoc, arith, length-append}
 use Rattle.std.proofs.lemmas.List.{take_at, length-take-le, take-take, nil_from_length}
-use Rattle.std.proofs.lemmas.Bool.{and_from, or_right, or_left, eq-eqb, cond-true, leb-true, le-leb, and_parts}
+use Rattle.std.proofs.lemmas.Bool.{cases_Bool, and_from, or_right, or_left, eq-eqb, cond-true, leb-true, leb-false, le-leb, and_parts}
 use Rattle.names.specs.Names.{node_name}
 use Rattle.names.specs.Paths.{root, path_text, stem, child, leaf, parent}
 use Rattle.names.proofs.NameLaws.{node_names}
 use Rattle.names.proofs.PathLaws.{by-root, path_splits, path_starts, stem-root}
 use Rattle.tree.specs.Places.{Bytes, node_at}
 use Rattle.tree.specs.Trees.{Tree, Sound, look}
-use Rattle.store.specs.Calls.{Meaning, closed, holds, Good, tested, there, length_of, named, next_child, child_on, names, least_after}
+use Rattle.store.specs.Calls.{Meaning, closed, holds, Good, tested, there, length_of, named, over, next_child, child_on, names, least_after}
 use Rattle.store.specs.declared.Refusal.{Refusal}
 use Rattle.store.specs.declared.Refusal.TheVariants.{BadName, Absent, Short}
 use Rattle.walk.specs.Steps.{Stands, Next}
@@ -103,6 +103,21 @@ parent-front r e h =
     (ap (take (length (parent r))) k ∙ take_at (parent r) (47 ∷ leaf r) (length (parent r)) refl, omega arith))
     (by-root (parent r))
 
+pub stem-front : (path : Bytes) (len : ℕ) → path_text (take len path) ≡ true → len ≤ length path → take (cond (leb len 1) 0 len) path ≡ stem (take len path)
+stem-front path len h l =
+    let k = length-take-le len path l in
+    let b = some_byte (take len path) h in
+    ⊎_elim
+    (λ t.
+    let e = leb-true len 1 t in
+    let p = path_starts (take len path) h in
+    let top : take len path ≡ root = p.1 ∙ ap (λ x. 47 ∷ x) (nil_from_length p.0 (let z = ap length p.1 in omega arith)) in
+    ap (λ z. take (cond z 0 len) path) t ∙ sym (ap stem top ∙ stem-root))
+    (λ f.
+    let e = leb-false len 1 f in
+    ap (λ z. take (cond z 0 len) path) f ∙ ⊎_elim (λ z. let y = ap length z in absurd (omega arith)) (λ z. sym z.1) (by-root (take len path)))
+    (cases_Bool (leb len 1))
+
 -- what a question for a name answers, by its length and its buffer
 pub by-some : (X : Result (Option Bytes) Refusal) (k : ℕ) (out : Bytes) → Ok (Some k) ≡ length_of X → (b : Bytes) × (X ≡ Ok (Some b)) × (length b ≡ k) × (take k (named X out) ≡ b)
 by-some (Err e) k out h = let z : ◌≡◌ {A = ℕ} 0 1 = cc in absurd (omega arith)
@@ -114,12 +129,23 @@ by-none (Err e) h = let z : ◌≡◌ {A = ℕ} 0 1 = cc in absurd (omega arith)
 by-none (Ok None) h = refl
 by-none (Ok (Some v)) h = let z : ◌≡◌ {A = ℕ} 0 1 = cc in absurd (omega arith)
 
+pub by_err : (X : Result (Option Bytes) Refusal) (e : Refusal) → Err e ≡ length_of X → X ≡ Err e
+by_err (Err d) e h = let z : d ≡ e = cc in ap Err z
+by_err (Ok None) e h = let z : ◌≡◌ {A = ℕ} 0 1 = cc in absurd (omega arith)
+by_err (Ok (Some v)) e h = let z : ◌≡◌ {A = ℕ} 0 1 = cc in absurd (omega arith)
+
+pub less_none : (n : ℕ) (xs : Bytes) → take (n - 0) xs ≡ take n xs
+less_none n xs = let z : n - 0 ≡ n = omega arith in ap (λ k. take k xs) z
+
 text_standing : (M : Meaning) (p r a : Bytes) → Good M → Standing M p r a → path_text r ≡ true
 text_standing closed p r a g h = absurd h
 text_standing (holds t) p r a g h = g.named (node_at r) [] h.0
 
 -- one turn of the climb from the node at p: r is open, and the children up to a are behind
 module _ (M : Meaning) (p r a : Bytes) (g : Good M) (st : Stands M p) (h : Standing M p r a) (begins : take (length r) p ≡ r) (x : Result (Option ℕ) Refusal) (said : x ≡ length_of (next_child M r a 63)) where
+  pub turn_refused : (e : Refusal) → x ≡ Err e → ⊥
+  turn_refused e saw = never-refused M p r a e g h (by_err (next_child M r a 63) e (sym saw ∙ said))
+
   pub turn_end : x ≡ Ok None → length r ≤ 1 → next_node M p 256 ≡ Ok None
   turn_end saw e = found-end M p r a 256 g st (omega arith) h (by-none (next_child M r a 63) (sym saw ∙ said)) e
 
@@ -167,3 +193,15 @@ module _ (M : Meaning) (p r a : Bytes) (g : Good M) (st : Stands M p) (h : Stand
     where
       length-take-most : (n : ℕ) (xs : Bytes) → length (take n xs) ≤ length xs
       length-take-most n xs = omega (arith, lib.ListN.length-take n xs)
+
+-- what a name's buffer begins with once it is filled
+pub front-filled : (ys rest : Bytes) (n : ℕ) (name : Bytes) → ys ≡ name → n ≡ length name → take n (ys ++ rest) ≡ name
+front-filled ys rest n name e h = ap (λ x. take n (x ++ rest)) e ∙ take_at name rest n (sym h)
+
+-- the buffer of a path where a child was joined to it
+pub joined-over : (path name last : Bytes) (stem : ℕ) → last ≡ take stem path ++ (47 ∷ (name ++ drop (stem + 1 + length name) path)) → stem + 1 + length name ≤ length path → last ≡ over (take stem path ++ (47 ∷ name)) path
+joined-over path name last stem e l =
+    let a = length-append (take stem path) (47 ∷ name) in
+    let b = length-take-le stem path (omega arith) in
+    let n : stem + 1 + length name ≡ length (take stem path ++ (47 ∷ name)) = omega arith in
+    e ∙ ap (λ k. take stem path ++ (47 ∷ (name ++ drop k path))) n ∙ sym (append_assoc (take stem path) (47 ∷ name) (drop (length (take stem path ++ (47 ∷ name))) path))

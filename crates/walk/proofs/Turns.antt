@@ -2,7 +2,7 @@
 use Rattle.std.proofs.Common.{◌≡◌, ℕ, ◌+◌, true, cond, eqb, [], ◌∷◌, ◌++◌, length, Some, None, Ordering, Less, Equal, Greater, sym, refl, ap, ◌∙◌, subst, inl, inr, ⊎_elim, true≢false, append_assoc, append-nil, arith}
 use Rattle.std.proofs.lemmas.List.{append_cancel_left}
 use Rattle.std.proofs.lemmas.Bool.{cases_Bool, cases_order, eqb-true}
-use Rattle.std.specs.Ordering.{is_lt, ordering_then, ordering_reverse}
+use Rattle.std.specs.Ordering.{is_lt, is_eq, ordering_then, ordering_reverse}
 use Rattle.names.specs.Names.{node_name}
 use Rattle.names.specs.Orders.{name_order, path_order, rank}
 use Rattle.names.specs.Paths.{root, path_text, stem, child, leaf, parent, plain}
@@ -21,6 +21,9 @@ use Rattle.walk.proofs.Behind.{is-less, less-is, up-beyond, behind-find, behind-
 use Rattle.walk.proofs.Least.{least-in, least-least, Ahead, names_in, names-out, child-on, on-child}
 use Rattle.walk.proofs.Marks.{mark, key, end_of, Asked, mark-plain, mark-none, key-child, end-key}
 use Rattle.walk.proofs.Orders.{AtMost, less_greater, equal_less, never_less, most-not-less, root-most}
+
+pub equal_greater : Equal ≡ Greater → ⊥
+equal_greater e = true≢false (ap is_eq e)
 
 -- the empty text and the root are not behind what begins with a slash
 root-front : (rest : Bytes) → AtMost root (47 ∷ rest)
