@@ -19,6 +19,7 @@ fn put_zeros(out: &mut Lent<u8>, n: usize)
     ensures used { out.new.used ≡ out.old.used + n }
     ensures items { take out.new.used out.new.items.now ≡ take out.old.used out.old.items.now ++ replicate n 0 }
     ensures kept { length out.new.items.now ≡ length out.old.items.now }
+    ensures same_reference { out.new.items.ghost_name ≡ out.old.items.ghost_name }
 {
     let zeros = [0u8; 4];
     out.append(&zeros[0..n]);
@@ -30,6 +31,7 @@ fn append32(out: &mut Lent<u8>, n: u32)
     ensures used { out.new.used ≡ out.old.used + 4 }
     ensures items { take out.new.used out.new.items.now ≡ take out.old.used out.old.items.now ++ bytes32 n }
     ensures kept { length out.new.items.now ≡ length out.old.items.now }
+    ensures same_reference { out.new.items.ghost_name ≡ out.old.items.ghost_name }
 {
     out.append(&n.to_be_bytes());
 }
@@ -40,6 +42,7 @@ pub fn put_begin(out: &mut Lent<u8>, name: &[u8])
     ensures used { out.new.used ≡ out.old.used + (4 + pad4 (length name.now + 1)) }
     ensures items { take out.new.used out.new.items.now ≡ take out.old.used out.old.items.now ++ token_bytes 0 (begin name.now) }
     ensures kept { length out.new.items.now ≡ length out.old.items.now }
+    ensures same_reference { out.new.items.ghost_name ≡ out.old.items.ghost_name }
 {
     append32(out, Tag::Begin as u32);
     out.append(name);
@@ -53,6 +56,7 @@ pub fn put_property(out: &mut Lent<u8>, k: u32, value: &[u8])
     ensures used { out.new.used ≡ out.old.used + (12 + pad4 (length value.now)) }
     ensures items { take out.new.used out.new.items.now ≡ take out.old.used out.old.items.now ++ token_bytes k (property [] value.now) }
     ensures kept { length out.new.items.now ≡ length out.old.items.now }
+    ensures same_reference { out.new.items.ghost_name ≡ out.old.items.ghost_name }
 {
     let n = value.len();
     append32(out, Tag::Property as u32);
@@ -69,6 +73,7 @@ pub fn put_string(out: &mut Lent<u8>, name: &[u8])
     ensures used { out.new.used ≡ out.old.used + (length name.now + 1) }
     ensures items { take out.new.used out.new.items.now ≡ take out.old.used out.old.items.now ++ (name.now ++ (0 ∷ [])) }
     ensures kept { length out.new.items.now ≡ length out.old.items.now }
+    ensures same_reference { out.new.items.ghost_name ≡ out.old.items.ghost_name }
 {
     out.append(name);
     put_zeros(out, 1);

@@ -26,6 +26,7 @@ impl<T: Copy> Lent<'_, T> {
         ensures used { self.new.used ≡ self.old.used + length new.now }
         ensures items { take self.new.used self.new.items.now ≡ take self.old.used self.old.items.now ++ new.now }
         ensures kept { length self.new.items.now ≡ length self.old.items.now }
+        ensures same_reference { self.new.items.ghost_name ≡ self.old.items.ghost_name }
     {
         put(self.items, self.used, new);
         self.used += new.len();
@@ -38,6 +39,7 @@ impl<T: Copy> Lent<'_, T> {
         ensures used { self.new.used ≡ self.old.used + n }
         ensures items { take self.new.used self.new.items.now ≡ spliced_in (take self.old.used self.old.items.now) at (between self.old.used (self.old.used + n) self.old.items.now) }
         ensures kept { length self.new.items.now ≡ length self.old.items.now }
+        ensures same_reference { self.new.items.ghost_name ≡ self.old.items.ghost_name }
     {
         let end = self.used + n;
         self.items[at..end].rotate_right(n);
@@ -51,6 +53,7 @@ impl<T: Copy> Lent<'_, T> {
         ensures used { self.new.used ≡ self.old.used + length new.now }
         ensures items { take self.new.used self.new.items.now ≡ spliced_in (take self.old.used self.old.items.now) at new.now }
         ensures kept { length self.new.items.now ≡ length self.old.items.now }
+        ensures same_reference { self.new.items.ghost_name ≡ self.old.items.ghost_name }
     {
         let end = self.used;
         put(self.items, end, new);
@@ -63,6 +66,7 @@ impl<T: Copy> Lent<'_, T> {
         ensures used { self.new.used ≡ self.old.used - n }
         ensures items { take self.new.used self.new.items.now ≡ spliced_out (take self.old.used self.old.items.now) at n }
         ensures kept { length self.new.items.now ≡ length self.old.items.now }
+        ensures same_reference { self.new.items.ghost_name ≡ self.old.items.ghost_name }
     {
         self.items[at..self.used].rotate_left(n);
         self.used -= n;
@@ -74,6 +78,7 @@ impl<T: Copy> Lent<'_, T> {
         ensures used { self.new.used ≡ self.old.used }
         ensures items { take self.new.used self.new.items.now ≡ written (take self.old.used self.old.items.now) at new.now }
         ensures kept { length self.new.items.now ≡ length self.old.items.now }
+        ensures same_reference { self.new.items.ghost_name ≡ self.old.items.ghost_name }
     {
         put(self.items, at, new);
     }
