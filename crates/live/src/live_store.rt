@@ -12,13 +12,13 @@ use tree::counts::{Counts, node_weight, property_weight};
 
 // A tree in lent memory: its records and pool are those of its nodes, and, once it is open, have room for every tree within the limits.
 pub struct Live<'a> {
-    memory: Memory<'a>,
-    ghost rows: { flat_rows (rows_of (held memory)) ≡ flat_rows (used_rows memory) },
-    ghost cells: { flat_cells (cells_of (held memory)) ≡ flat_cells (used_cells memory) },
-    ghost bytes: { bytes_of (held memory) ≡ used_bytes memory },
-    ghost weight: { memory.weight ≡ weight_of (held memory) },
-    ghost room: { room_for memory ≡ true },
-    ghost sound: { valid memory.boot (held memory) ≡ true },
+    pub memory: Memory<'a>,
+    pub ghost rows: { flat_rows (rows_of (held memory)) ≡ flat_rows (used_rows memory) },
+    pub ghost cells: { flat_cells (cells_of (held memory)) ≡ flat_cells (used_cells memory) },
+    pub ghost bytes: { bytes_of (held memory) ≡ used_bytes memory },
+    pub ghost weight: { memory.weight ≡ weight_of (held memory) },
+    pub ghost room: { room_for memory ≡ true },
+    pub ghost sound: { valid memory.boot (held memory) ≡ true },
 }
 
 impl Tape for Live<'_> {
