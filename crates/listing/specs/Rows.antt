@@ -1,5 +1,5 @@
 -- The rows of a listing: places with their values. Assumes nothing.
-use Rattle.std.specs.Prelude.{ℕ, List, [], ◌∷◌, ◌++◌, map, reverse, Some, vec_items, Vec}
+use Rattle.std.specs.Prelude.{◌≡◌, ℕ, ◌+◌, ◌<◌, ◌≤◌, List, [], ◌∷◌, ◌++◌, map, reverse, length, take, drop, Some, Ok, Err, vec_items, Result, Vec}
 use Rattle.std.specs.declared.cmp.Ordering.{Ordering}
 use Rattle.std.specs.declared.alloc.Global.{Global}
 use Rattle.std.specs.Cmp.{IsTotalOrder}
@@ -49,6 +49,11 @@ held es = map held_one es
 -- the places with e put where document order has it
 abbrev pub with : Places → Place × Bytes → Places
 with ps e = upd order ps e.0 (Some e.1)
+
+-- where e is to be put: it replaces what is there, or goes before it
+abbrev pub Seated : Places → Place × Bytes → Result ℕ ℕ → Type 0
+Seated ps e (Ok i) = (i < length ps) × (with ps e ≡ take i ps ++ (e ∷ drop (i + 1) ps))
+Seated ps e (Err i) = (i ≤ length ps) × (with ps e ≡ take i ps ++ (e ∷ drop i ps))
 
 -- all of them put into acc, from the last to the first
 abbrev pub arranged_on : Places → Places → Places

@@ -7,10 +7,10 @@ ghost use Rattle.reader.specs.Format.{Spelt};
 ghost use Rattle.reader.specs.Handing.{ahead, item_of};
 ghost use Rattle.reader.specs.Reading.{entries, path_in, innermost as top};
 ghost use Rattle.tree.specs.Entries.{listed};
-ghost use Rattle.tree.specs.Places.{node_at, property_at};
-ghost use Rattle.listing.specs.Rows.{place_order, place_total, keyed, placed, held, with, arranged, stacked, told};
+ghost use Rattle.tree.specs.Places.{order, node_at, property_at};
+ghost use Rattle.listing.specs.Rows.{place_of, place_order, place_total, keyed, placed, held, with, Seated, arranged, stacked, told};
 
-use names::paths::{ROOT, SLASH, compare_paths, stem_len};
+use names::paths::{ROOT, SLASH, compare_names, compare_paths, stem_len};
 use reader::cursor::Tokens;
 use reader::tokens::Item;
 use std::alloc::{AllocError, Global};
@@ -35,7 +35,15 @@ impl<'a> Ord for Place<'a> {
     ghost matches_eq = { λ x y. refl };
 
     fn cmp(&self, other: &Place<'a>) -> Ordering {
-        compare_paths(self.path.as_slice(), other.path.as_slice()).then(self.name.cmp(&other.name))
+        match compare_paths(self.path.as_slice(), other.path.as_slice()) {
+            Ordering::Equal => match (self.name, other.name) {
+                (None, None) => Ordering::Equal,
+                (None, Some(_)) => Ordering::Less,
+                (Some(_), None) => Ordering::Greater,
+                (Some(m), Some(n)) => compare_names(m, n),
+            },
+            o => o,
+        }
     }
 }
 
@@ -70,11 +78,48 @@ pub struct Row<'a> {
     pub value: &'a [u8],
 }
 
+// Document order of rows, which is that of their places.
+pub fn compare_rows(a: &Row, b: &Row) -> Ordering
+    ensures { result ≡ order (place_of a.now.place) (place_of b.now.place) }
+{
+    a.place.cmp(&b.place)
+}
+
+// Where a row's place is among rows in document order, or else where it would go.
+pub fn seat(rows: &[Row], row: &Row) -> Result<usize, usize>
+    ensures { Seated (placed rows.now) (keyed row.now) result }
+{
+    for (i, other) in rows.iter().enumerate() {
+        match compare_rows(row, other) {
+            Ordering::Less => return Err(i),
+            Ordering::Equal => return Ok(i),
+            Ordering::Greater => {}
+        }
+    }
+    Err(rows.len())
+}
+
+// Puts a row in its place among rows in document order; one at the same place is replaced.
+pub fn put<'a>(rows: &mut Vec<Row<'a>>, row: Row<'a>) -> Result<(), AllocError>
+    ensures { OnOk result (placed rows.new.items ≡ with (placed rows.old.items) (keyed row.entry)) }
+{
+    match seat(rows.as_slice(), &row) {
+        Ok(i) => {
+            drop(rows.remove(i));
+            rows.insert(i, row)?;
+        }
+        Err(i) => {
+            rows.insert(i, row)?;
+        }
+    }
+    Ok(())
+}
+
 // Rows in document order, one at each place.
 pub type Sorted<'a> = BTreeMap<Place<'a>, &'a [u8]>;
 
-// Puts a row in its place; one at the same place is replaced.
-pub fn put<'a>(sorted: &mut Sorted<'a>, row: Row<'a>) -> Result<(), AllocError>
+// Puts a row in its place in such a map; one at the same place is replaced.
+pub fn enter_row<'a>(sorted: &mut Sorted<'a>, row: Row<'a>) -> Result<(), AllocError>
     ensures { OnOk result (held sorted.new.entries ≡ with (held sorted.old.entries) (keyed row.entry)) }
 {
     sorted.insert(row.place, row.value)?;
@@ -87,7 +132,7 @@ pub fn arrange<'a>(heap: Global, rows: Vec<Row<'a>>) -> Result<Sorted<'a>, Alloc
 {
     let mut sorted = BTreeMap::new(heap);
     for row in rows.into_iter().rev() {
-        put(&mut sorted, row)?;
+        enter_row(&mut sorted, row)?;
     }
     Ok(sorted)
 }
