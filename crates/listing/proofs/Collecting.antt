@@ -2,9 +2,7 @@
 use Rattle.std.proofs.Common.{◌≡◌, ℕ, ◌<◌, ltb, List, [], ◌∷◌, ◌++◌, map, reverse, length, is_some, IfOk, Some, None, Ok, Err, vec_items, Option, Result, Vec, sym, refl, ap, ◌∙◌, append_assoc, append-nil, arith, Bor}
 use Rattle.std.specs.declared.alloc.Global.{Global}
 use Rattle.std.specs.Option.{option_to_list}
-use Rattle.std.specs.List.{AllZip}
-use Rattle.std.proofs.lemmas.Slice.Zip.{AllZip-map}
-use Rattle.std.proofs.lemmas.List.{map-append, map-id, reverse-append, length-reverse, length-map}
+use Rattle.std.proofs.lemmas.List.{map-append, reverse-append, length-reverse, length-map}
 use Rattle.std.proofs.lemmas.Bool.Decides.{nat_tests}
 use Rattle.names.specs.Paths.{child, stem}
 use Rattle.tree.specs.Places.{Bytes, Place}
@@ -162,7 +160,3 @@ pub end-made :
     told ps (stacked us) rest ≡ told ps (stacked vs) (item_of i ∷ rest)
 end-made ps vs us r n i at e p s l rest =
     end_more ps (stacked vs) (stacked us) at (popped vs us r p (s ∙ ap (λ (m : ℕ). ltb 0 m) l)) rest ∙ ap (λ (x : Item). told ps (stacked vs) (item_of x ∷ rest)) (sym e)
-
--- clones of bytes are the same bytes
-pub cloned : (xs ys : Bytes) → AllZip (λ x y. y ≡ x) xs ys → ys ≡ xs
-cloned xs ys h = AllZip-map (λ x. x) xs ys h ∙ map-id xs

@@ -181,7 +181,7 @@ impl<'a> Collector<'a> {
     {
         let path = self.path_in(name)?;
         let place = Place {
-            path: path.clone()?,
+            path: Vec::from_slice(*path.allocator(), path.as_slice())?,
             name: None,
         };
         self.rows.push(Row { place, value: b"" })?;
