@@ -1,6 +1,5 @@
 -- How the bytes of a value are shown. Assumes nothing.
 use Rattle.std.specs.Prelude.{◌≡◌, ℕ, ◌+◌, ◌-◌, ◌/◌, ◌%◌, Bool, true, false, cond, not, ◌&&◌, ◌||◌, List, [], ◌∷◌, ◌++◌, length, take, Result, OnOk, ◌==◌, nat_le, nat_lt}
-use Rattle.std.specs.List.{list_all}
 
 -- 0 to 9, then a to f
 abbrev pub hex_digit : ℕ → ℕ
@@ -15,9 +14,15 @@ hex (b ∷ bs) = hex_digit (b / 16) ∷ hex_digit (b % 16) ∷ hex bs
 abbrev pub printable : ℕ → Bool
 printable b = nat_le 32 b && nat_le b 126
 
--- a text of printable bytes that is not empty
-abbrev pub printed : List ℕ → Bool
-printed text = not (length text == 0) && list_all printable text
+-- a zero byte comes last
+abbrev pub zero_last : List ℕ → Bool
+zero_last [] = false
+zero_last (b ∷ []) = b == 0
+zero_last (b ∷ c ∷ bs) = zero_last (c ∷ bs)
+
+-- a zero byte comes last, and something before it
+abbrev pub ended : List ℕ → Bool
+ended part = nat_lt 1 (length part) && zero_last part
 
 -- printable bytes with a zero byte behind each run of them; `began` where a run has begun
 abbrev pub runs : Bool → List ℕ → Bool

@@ -1,6 +1,6 @@
 // How values are shown.
-ghost use Rattle.std.specs.Prelude.{◌≡◌};
-ghost use Rattle.listing.specs.Shown.{hex, printable, printed, is_text, shown_byte, quoted, Appended};
+ghost use Rattle.std.specs.Prelude.{◌≡◌, [], ◌∷◌};
+ghost use Rattle.listing.specs.Shown.{hex, printable, ended, is_text, shown_byte, quoted, Appended};
 
 use std::alloc::AllocError;
 
@@ -8,12 +8,23 @@ const QUOTE: u8 = b'"';
 
 const BACKSLASH: u8 = b'\\';
 
+// The two digits of a byte.
+fn digits(b: u8) -> [u8; 2]
+    ensures { result ≡ hex (b ∷ []) }
+{
+    let mut pair = [0; 2];
+    hex::encode_to_slice([b], &mut pair).unwrap();
+    pair
+}
+
 // Appends two digits for each byte.
 pub fn push_hex(out: &mut Vec<u8>, bytes: &[u8]) -> Result<(), AllocError>
     ensures { Appended result out.old.items out.new.items (hex bytes.now) }
 {
-    let digits = hex::encode(*out.allocator(), bytes)?;
-    out.extend_from_slice(digits.as_bytes())
+    for b in bytes {
+        out.extend_from_slice(&digits(*b))?;
+    }
+    Ok(())
 }
 
 fn is_printable(b: u8) -> bool
@@ -22,21 +33,24 @@ fn is_printable(b: u8) -> bool
     matches!(b, b' '..=b'~')
 }
 
-// Whether a text is of printable bytes, and not empty.
-fn is_printed(text: &[u8]) -> bool
-    ensures { result ≡ printed text.now }
+// Whether a part is of two bytes or more, the last of them a zero byte.
+fn is_ended(part: &[u8]) -> bool
+    ensures { result ≡ ended part.now }
 {
-    !text.is_empty() && text.iter().all(|b| is_printable(*b))
+    let Some((end, text)) = part.split_last() else {
+        return false;
+    };
+    *end == 0 && !text.is_empty()
 }
 
-// Whether a value is one or more such texts, each with a zero byte behind it.
+// Whether a value is one or more texts of printable bytes, none of them empty, each with a zero byte behind it. It looks no further than the first byte that makes it none.
 pub fn is_text(value: &[u8]) -> bool
     ensures { result ≡ is_text value.now }
 {
-    let Some((end, texts)) = value.split_last() else {
+    let Some((end, _)) = value.split_last() else {
         return false;
     };
-    *end == 0 && texts.split(|b| *b == 0).all(|text| is_printed(text))
+    *end == 0 && value.split_inclusive(|b| !is_printable(*b)).all(is_ended)
 }
 
 // Appends a byte as it is shown between quotes. It may be any byte, and `Debug` of a text takes UTF-8 alone.

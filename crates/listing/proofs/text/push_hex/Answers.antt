@@ -1,10 +1,8 @@
-use Rattle.std.proofs.Common.{◌≡◌, vec_items, ◌∙◌, arith}
-use Rattle.listing.specs.Shown.{hex}
-use Rattle.listing.proofs.Shows.{hex_encoded, appended}
+use Rattle.listing.proofs.Shows.{hex-more, hex-all}
 use Rattle.listing.proofs.text.push_hex.Goals as goal
 
+pub loop-b-preserved : goal.loop-b-preserved
+loop-b-preserved c = hex-more _ _ _ _ _ _ c.loop-b-test.true c.loop-b.invariant c.digits.ensures c.in_ok-extend_from_slice.ensures.items
+
 pub returns : goal.returns
-returns c =
-    let e : c.as_bytes.result.now ≡ hex c.args.bytes.now =
-    c.as_bytes.ensures.value ∙ c.in_ok-digits.ensures ∙ hex_encoded c.args.bytes.now (λ i. let h = c.type_inv.bytes i in omega arith) in
-    appended c.extend_from_slice.result (vec_items c.args.out.now) (vec_items c.extend_from_slice.new.self) (hex c.args.bytes.now) (rw e at c.extend_from_slice.ensures.items)
+returns c = hex-all _ _ _ _ c.loop-b-test.false c.loop-b.invariant
