@@ -17,7 +17,7 @@ each-all p [] = refl
 each-all p (x ∷ xs) = ap (λ v. p x && v) (each-all p xs)
 
 -- the first place that passes, or the length where none does
-unless_first : {X : Type 0} (p : X → Bool) (s : List X) → unwrap_or (position p s) (length s) ≡ position_or_len p s
+pub unless_first : {X : Type 0} (p : X → Bool) (s : List X) → unwrap_or (position p s) (length s) ≡ position_or_len p s
 unless_first p s = grind (arith, nat_tests, prefix_len-le-length (λ x. not (p x)) s)
 
 pub before-first : (b : ℕ) (s : List ℕ) → position_or_len (λ x. x == b) s ≡ before b s

@@ -27,6 +27,18 @@ pub fn compare_names(a: &[u8], b: &[u8]) -> Ordering
     a.cmp(&b)
 }
 
+// How many bytes `a` and `b` begin with alike. Both are cut to one length first, so that a turn tests for one end.
+fn shared(a: &[u8], b: &[u8]) -> usize
+    ensures { result ≡ common_prefix_len nat_eq a.now b.now }
+{
+    let n = a.len().min(b.len());
+    a[..n]
+        .iter()
+        .zip(b[..n].iter())
+        .position(|(x, y)| x != y)
+        .unwrap_or(n)
+}
+
 fn ranked(b: u8) -> u16
     ensures { result ≡ rank b }
 {
@@ -44,13 +56,16 @@ pub fn leaf_start(path: &[u8]) -> usize
     }
 }
 
-// Paths in document order.
+// Paths in document order: the first byte that differs decides, or else the length.
 pub fn compare_paths(a: &[u8], b: &[u8]) -> Ordering
     ensures { result ≡ path_order a.now b.now }
 {
-    a.iter()
-        .map(|x| ranked(*x))
-        .cmp(b.iter().map(|x| ranked(*x)))
+    let n = shared(a, b);
+    if n < a.len() && n < b.len() {
+        ranked(a[n]).cmp(&ranked(b[n]))
+    } else {
+        a.len().cmp(&b.len())
+    }
 }
 
 // The path without its last name; the root is its own.
