@@ -1,7 +1,8 @@
 -- The test whether a name stands at an offset. Assumes nothing.
-use Rattle.std.proofs.Common.{◌≡◌, ℕ, ◌&&◌, ◌||◌, eqb, List, [], ◌∷◌, ◌++◌, length, drop, refl, ap, ◌∙◌, arith}
+use Rattle.std.proofs.Common.{◌≡◌, ℕ, ◌&&◌, ◌||◌, eqb, List, [], ◌∷◌, ◌++◌, length, take, drop, refl, ap, ◌∙◌, arith}
 use Rattle.std.specs.List.{AllByRecursion, list_any, starts_with}
 use Rattle.std.specs.Str.{bytes_eq}
+use Rattle.std.specs.Cmp.Lexicographic.{pointwise}
 use Rattle.std.proofs.lemmas.Bool.Decides.{nat_tests}
 use Rattle.std.proofs.lemmas.Bool.{ne_eqb}
 use Rattle.tree.specs.Places.{Bytes}
@@ -13,6 +14,13 @@ pub begins-parts : (name bs : Bytes) → (starts_with eqb bs name && starts_with
 begins-parts [] bs = refl
 begins-parts (x ∷ name) [] = refl
 begins-parts (x ∷ name) (b ∷ bs) = let r = begins-parts name bs in grind (arith, nat_tests)
+
+-- the same where as many bytes as the name has are compared with it
+pub begins-text : (name bs : Bytes) → (starts_with eqb (drop (length name) bs) (0 ∷ []) && pointwise eqb (take (length name) bs) name) ≡ begins name bs
+begins-text [] [] = refl
+begins-text [] (b ∷ bs) = grind (arith, nat_tests)
+begins-text (x ∷ name) [] = grind (arith, nat_tests)
+begins-text (x ∷ name) (b ∷ bs) = let r = begins-text name bs in grind (arith, nat_tests)
 
 -- where a name stands with its zero byte, the test says whether it is that name
 begins-is : (name n rest : Bytes) → AllByRecursion (λ b. b ≡ 0 → ⊥) name → AllByRecursion (λ b. b ≡ 0 → ⊥) n → begins name (n ++ (0 ∷ rest)) ≡ bytes_eq n name

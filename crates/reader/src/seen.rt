@@ -16,14 +16,17 @@ pub struct Seen {
     pub at: ArrayVec<usize, CAPACITY>,
 }
 
-// Does the name stand at the offset, with a zero byte behind it?
+// Does the name stand at the offset, with a zero byte behind it? That byte comes first, since most names differ in length.
 fn stands_at(bytes: &[u8], at: usize, name: &[u8]) -> bool
     ensures { result ≡ begins name.now (drop at bytes.now) }
 {
     let Some(rest) = bytes.get(at..) else {
         return false;
     };
-    rest.starts_with(name) && rest[name.len()..].starts_with(&[0])
+    let Some((text, behind)) = rest.split_at_checked(name.len()) else {
+        return false;
+    };
+    behind.starts_with(&[0]) && text == name
 }
 
 impl Seen {
@@ -39,11 +42,11 @@ impl Seen {
     pub(crate) fn has(&self, bytes: &[u8], base: usize, name: &[u8]) -> bool
         ensures { result ≡ list_any (λ o. begins name.now (drop o bytes.now)) (drop base self.now.at.items) }
     {
-        self.at
-            .as_slice()
-            .iter()
-            .skip(base)
-            .any(|at| stands_at(bytes, *at, name))
+        // From a slice of these: the library's `skip` would pass the others one by one.
+        let Some(own) = self.at.as_slice().get(base..) else {
+            return false;
+        };
+        own.iter().any(|at| stands_at(bytes, *at, name))
     }
 
     // One name more.
