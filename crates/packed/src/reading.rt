@@ -20,6 +20,13 @@ pub struct Packed<'a> {
     pub ghost intact: { intact region ≡ true },
 }
 
+// The same, lent to be read.
+#[derive(Clone, Copy)]
+pub struct View<'r, 'a> {
+    pub region: &'r Region<'a>,
+    pub ghost intact: { intact region.now ≡ true },
+}
+
 // A node's depth, and where its begin token is.
 #[derive(Clone, Copy)]
 pub struct Begin {
@@ -36,17 +43,18 @@ pub struct Run {
 
 // Each method reads only what it needs of a token: `Blob::token_at` would also search for the end of a property's name in `run`,
 // `behind` and `value`.
-impl Packed<'_> {
+impl<'r> View<'r, '_> {
     // Where a node's begin token is, behind the end tokens at its spot.
     pub fn begin(&self, s: Spot) -> Begin
-        requires { Here (nodes_of self.now.region) (spot_of (nodes_of self.now.region)) s }
-        ensures depth { result.depth ≡ (nth (nodes_of self.now.region) s.node).depth }
-        ensures at { result.at ≡ begin_of (nodes_of self.now.region) s.node }
+        requires { Here (nodes_of self.now.region.now) (spot_of (nodes_of self.now.region.now)) s }
+        ensures depth { result.depth ≡ (nth (nodes_of self.now.region.now) s.node).depth }
+        ensures at { result.at ≡ begin_of (nodes_of self.now.region.now) s.node }
     {
+        let bytes = self.region.as_bytes();
         let mut at = s.at;
         let mut depth = s.property;
         // The tokens say how far it goes, and no index is counted.
-        while be32_at(self.region.bytes, at) == Tag::End as u32 {
+        while be32_at(bytes, at) == Tag::End as u32 {
             at += TOKEN_SIZE;
             depth -= 1;
         }
@@ -55,38 +63,41 @@ impl Packed<'_> {
 
     // How many bytes the name of the node has whose begin token is at `at`. Only the contract uses `s`, which says which node it is.
     pub fn name_length(&self, s: Spot, at: usize) -> usize
-        requires here { Here (nodes_of self.now.region) (spot_of (nodes_of self.now.region)) s }
-        requires at { at ≡ begin_of (nodes_of self.now.region) s.node }
-        ensures { result ≡ length (nth (nodes_of self.now.region) s.node).name }
+        requires here { Here (nodes_of self.now.region.now) (spot_of (nodes_of self.now.region.now)) s }
+        requires at { at ≡ begin_of (nodes_of self.now.region.now) s.node }
+        ensures { result ≡ length (nth (nodes_of self.now.region.now) s.node).name }
     {
+        let bytes = self.region.as_bytes();
         let from = at + TOKEN_SIZE;
         let to = STRUCTURE_START + self.region.structure;
-        find(&self.region.bytes[from..to], 0)
+        find(&bytes[from..to], 0)
     }
 
     // The name of a node.
-    pub fn name(&self, s: Spot) -> &[u8]
-        requires { Here (nodes_of self.now.region) (spot_of (nodes_of self.now.region)) s }
-        ensures { result.now ≡ (nth (nodes_of self.now.region) s.node).name }
+    pub fn name(&self, s: Spot) -> &'r [u8]
+        requires { Here (nodes_of self.now.region.now) (spot_of (nodes_of self.now.region.now)) s }
+        ensures { result.now ≡ (nth (nodes_of self.now.region.now) s.node).name }
     {
+        let bytes = self.region.as_bytes();
         let b = self.begin(s);
         let from = b.at + TOKEN_SIZE;
         let to = STRUCTURE_START + self.region.structure;
-        text_at(self.region.bytes, from, to).unwrap()
+        text_at(bytes, from, to).unwrap()
     }
 
     // The properties of a node whose first is at `from`. Only the contract uses `s`, which says which node it is.
     pub fn run(&self, s: Spot, from: usize) -> Run
-        requires here { Here (nodes_of self.now.region) (spot_of (nodes_of self.now.region)) s }
-        requires from { from ≡ first_of (nodes_of self.now.region) s.node }
-        ensures count { result.count ≡ length (properties_at (nodes_of self.now.region) s.node) }
-        ensures end { result.end ≡ (mark_of (nodes_of self.now.region) s.node result.count).at }
+        requires here { Here (nodes_of self.now.region.now) (spot_of (nodes_of self.now.region.now)) s }
+        requires from { from ≡ first_of (nodes_of self.now.region.now) s.node }
+        ensures count { result.count ≡ length (properties_at (nodes_of self.now.region.now) s.node) }
+        ensures end { result.end ≡ (mark_of (nodes_of self.now.region.now) s.node result.count).at }
     {
+        let bytes = self.region.as_bytes();
         let mut at = from;
         let mut count = 0;
         // Each token says where the next one is.
-        while be32_at(self.region.bytes, at) == Tag::Property as u32 {
-            let n = be32_at(self.region.bytes, at + AT_LENGTH) as usize;
+        while be32_at(bytes, at) == Tag::Property as u32 {
+            let n = be32_at(bytes, at + AT_LENGTH) as usize;
             at += PROPERTY_SIZE + rounded4(n);
             count += 1;
         }
@@ -95,8 +106,8 @@ impl Packed<'_> {
 
     // The node at a spot.
     pub fn head(&self, s: Spot) -> Head
-        requires { Here (nodes_of self.now.region) (spot_of (nodes_of self.now.region)) s }
-        ensures { Reads (nodes_of self.now.region) (spot_of (nodes_of self.now.region)) (mark_of (nodes_of self.now.region)) s result }
+        requires { Here (nodes_of self.now.region.now) (spot_of (nodes_of self.now.region.now)) s }
+        ensures { Reads (nodes_of self.now.region.now) (spot_of (nodes_of self.now.region.now)) (mark_of (nodes_of self.now.region.now)) s result }
     {
         let b = self.begin(s);
         let n = self.name_length(s, b.at);
@@ -123,10 +134,11 @@ impl Packed<'_> {
 
     // The mark behind a property's.
     pub fn behind(&self, m: Mark) -> Mark
-        requires { On (nodes_of self.now.region) (mark_of (nodes_of self.now.region)) m }
-        ensures { result ≡ mark_of (nodes_of self.now.region) m.node (m.number + 1) }
+        requires { On (nodes_of self.now.region.now) (mark_of (nodes_of self.now.region.now)) m }
+        ensures { result ≡ mark_of (nodes_of self.now.region.now) m.node (m.number + 1) }
     {
-        let n = be32_at(self.region.bytes, m.at + AT_LENGTH) as usize;
+        let bytes = self.region.as_bytes();
+        let n = be32_at(bytes, m.at + AT_LENGTH) as usize;
         Mark {
             node: m.node,
             number: m.number + 1,
@@ -136,31 +148,33 @@ impl Packed<'_> {
     }
 
     // The name of a property.
-    pub fn property_name(&self, m: Mark) -> &[u8]
-        requires { On (nodes_of self.now.region) (mark_of (nodes_of self.now.region)) m }
-        ensures { result.now ≡ (property_of (nodes_of self.now.region) m.node m.number).0 }
+    pub fn property_name(&self, m: Mark) -> &'r [u8]
+        requires { On (nodes_of self.now.region.now) (mark_of (nodes_of self.now.region.now)) m }
+        ensures { result.now ≡ (property_of (nodes_of self.now.region.now) m.node m.number).0 }
     {
+        let bytes = self.region.as_bytes();
         let strings = STRUCTURE_START + self.region.structure;
-        let from = strings + be32_at(self.region.bytes, m.at + AT_NAME) as usize;
+        let from = strings + be32_at(bytes, m.at + AT_NAME) as usize;
         let end = strings + self.region.strings;
-        text_at(self.region.bytes, from, end).unwrap()
+        text_at(bytes, from, end).unwrap()
     }
 
     // The value of a property.
-    pub fn value(&self, m: Mark) -> &[u8]
-        requires { On (nodes_of self.now.region) (mark_of (nodes_of self.now.region)) m }
-        ensures { result.now ≡ (property_of (nodes_of self.now.region) m.node m.number).1 }
+    pub fn value(&self, m: Mark) -> &'r [u8]
+        requires { On (nodes_of self.now.region.now) (mark_of (nodes_of self.now.region.now)) m }
+        ensures { result.now ≡ (property_of (nodes_of self.now.region.now) m.node m.number).1 }
     {
+        let bytes = self.region.as_bytes();
         let from = m.at + PROPERTY_SIZE;
-        let to = from + be32_at(self.region.bytes, m.at + AT_LENGTH) as usize;
-        &self.region.bytes[from..to]
+        let to = from + be32_at(bytes, m.at + AT_LENGTH) as usize;
+        &bytes[from..to]
     }
 
     // What the limits count: the weight is what the two blocks take beyond the tokens' own numbers.
     pub fn counts(&self) -> Counts
-        ensures { Counted (nodes_of self.now.region) result }
+        ensures { Counted (nodes_of self.now.region.now) result }
     {
-        let x = &self.region;
+        let x = self.region;
         if x.nodes == 0 {
             return Counts::zero();
         }
@@ -170,5 +184,91 @@ impl Packed<'_> {
             properties: x.properties,
             weight: x.structure + x.strings - tokens,
         }
+    }
+}
+
+impl Packed<'_> {
+    // The memory, lent to be read.
+    fn view(&self) -> View<'_, '_>
+        ensures { result.region.now ≡ self.now.region }
+    {
+        View {
+            region: &self.region,
+        }
+    }
+
+    // Where a node's begin token is, behind the end tokens at its spot.
+    pub fn begin(&self, s: Spot) -> Begin
+        requires { Here (nodes_of self.now.region) (spot_of (nodes_of self.now.region)) s }
+        ensures depth { result.depth ≡ (nth (nodes_of self.now.region) s.node).depth }
+        ensures at { result.at ≡ begin_of (nodes_of self.now.region) s.node }
+    {
+        self.view().begin(s)
+    }
+
+    // How many bytes the name of the node has whose begin token is at `at`. Only the contract uses `s`, which says which node it is.
+    pub fn name_length(&self, s: Spot, at: usize) -> usize
+        requires here { Here (nodes_of self.now.region) (spot_of (nodes_of self.now.region)) s }
+        requires at { at ≡ begin_of (nodes_of self.now.region) s.node }
+        ensures { result ≡ length (nth (nodes_of self.now.region) s.node).name }
+    {
+        self.view().name_length(s, at)
+    }
+
+    // The name of a node.
+    pub fn name(&self, s: Spot) -> &[u8]
+        requires { Here (nodes_of self.now.region) (spot_of (nodes_of self.now.region)) s }
+        ensures { result.now ≡ (nth (nodes_of self.now.region) s.node).name }
+    {
+        self.view().name(s)
+    }
+
+    // The properties of a node whose first is at `from`. Only the contract uses `s`, which says which node it is.
+    pub fn run(&self, s: Spot, from: usize) -> Run
+        requires here { Here (nodes_of self.now.region) (spot_of (nodes_of self.now.region)) s }
+        requires from { from ≡ first_of (nodes_of self.now.region) s.node }
+        ensures count { result.count ≡ length (properties_at (nodes_of self.now.region) s.node) }
+        ensures end { result.end ≡ (mark_of (nodes_of self.now.region) s.node result.count).at }
+    {
+        self.view().run(s, from)
+    }
+
+    // The node at a spot.
+    pub fn head(&self, s: Spot) -> Head
+        requires { Here (nodes_of self.now.region) (spot_of (nodes_of self.now.region)) s }
+        ensures { Reads (nodes_of self.now.region) (spot_of (nodes_of self.now.region)) (mark_of (nodes_of self.now.region)) s result }
+    {
+        self.view().head(s)
+    }
+
+    // The mark behind a property's.
+    pub fn behind(&self, m: Mark) -> Mark
+        requires { On (nodes_of self.now.region) (mark_of (nodes_of self.now.region)) m }
+        ensures { result ≡ mark_of (nodes_of self.now.region) m.node (m.number + 1) }
+    {
+        self.view().behind(m)
+    }
+
+    // The name of a property.
+    pub fn property_name(&self, m: Mark) -> &[u8]
+        requires { On (nodes_of self.now.region) (mark_of (nodes_of self.now.region)) m }
+        ensures { result.now ≡ (property_of (nodes_of self.now.region) m.node m.number).0 }
+    {
+        self.view().property_name(m)
+    }
+
+    // The value of a property.
+    pub fn value(&self, m: Mark) -> &[u8]
+        requires { On (nodes_of self.now.region) (mark_of (nodes_of self.now.region)) m }
+        ensures { result.now ≡ (property_of (nodes_of self.now.region) m.node m.number).1 }
+    {
+        self.view().value(m)
+    }
+
+    // What the limits count: the weight is what the two blocks take beyond the tokens' own numbers.
+    pub fn counts(&self) -> Counts
+        ensures { Counted (nodes_of self.now.region) result }
+    {
+        self.view().counts()
     }
 }

@@ -1,4 +1,5 @@
 // The memory of the packed store: a blob in front of lent bytes.
+ghost use Rattle.std.specs.Prelude.{◌≡◌};
 
 // Where the structure block begins, behind the header and an empty reservation block.
 pub const STRUCTURE_START: usize = 56;
@@ -12,4 +13,12 @@ pub struct Region<'a> {
     pub structure: usize,
     pub strings: usize,
     pub boot: u32,
+}
+
+impl Region<'_> {
+    pub(crate) fn as_bytes(&self) -> &[u8]
+        ensures { result.now ≡ self.now.bytes.now }
+    {
+        self.bytes
+    }
 }

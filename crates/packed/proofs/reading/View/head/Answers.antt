@@ -6,7 +6,7 @@ use Rattle.packed.specs.Regions.{nodes_of}
 use Rattle.packed.proofs.Marks.{first-mark}
 use Rattle.packed.proofs.Places.{open_at, at_spot, first-is}
 use Rattle.packed.proofs.Spots.{next-spot}
-use Rattle.packed.proofs.reading.Packed.head.Goals as goal
+use Rattle.packed.proofs.reading.View.head.Goals as goal
 
 pub overflow_add-from : goal.overflow_add-from
 overflow_add-from c = let f = at_spot c.args.self.now c.args.s c.requires in omega (arith, c.begin-b.ensures.at)
@@ -32,7 +32,7 @@ overflow_add-next-2 c = let f = at_spot c.args.self.now c.args.s c.requires in o
 pub returns : goal.returns
 unfolding mark_of
 returns c =
-    let x = c.args.self.now.region in
+    let x = c.args.self.now.region.now in
     let i : ℕ = c.args.s.node in
     let l = c.requires.inside in
     let o = open_at c.args.self.now i l in

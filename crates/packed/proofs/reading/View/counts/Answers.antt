@@ -6,7 +6,7 @@ use Rattle.packed.specs.Regions.{nodes_of, Open}
 use Rattle.packed.specs.declared.region.Region.{Region}
 use Rattle.packed.proofs.Decoded.{opened_some, closed_none}
 use Rattle.packed.proofs.Nodes.{sizes}
-use Rattle.packed.proofs.reading.Packed.counts.Goals as goal
+use Rattle.packed.proofs.reading.View.counts.Goals as goal
 
 module _ (x : Region) (o : Open x) where
   few : (x.nodes ≤ 256) × (x.properties ≤ 1024)
@@ -27,33 +27,33 @@ module _ (x : Region) (o : Open x) where
 pub returns-then-x-eq0 : goal.returns-then-x-eq0
 unfolding properties_of weight_of
 returns-then-x-eq0 c =
-    let e = closed_none c.args.self.now.region c.if-x-eq0.true in
+    let e = closed_none c.args.self.now.region.now c.if-x-eq0.true in
     let z = c.zero.ensures in
     record { nodes = ap (λ k. k.nodes) z ∙ ap length (sym e); properties = ap (λ k. k.properties) z ∙ ap properties_of (sym e); weight = ap (λ k. k.weight) z ∙ ap weight_of (sym e) }
 
 pub overflow_mul-tokens : goal.overflow_mul-tokens
-overflow_mul-tokens c = let f = (few c.args.self.now.region (opened_some c.args.self.now.region c.args.self.now.intact c.if-x-eq0.false)).0 in omega arith
+overflow_mul-tokens c = let f = (few c.args.self.now.region.now (opened_some c.args.self.now.region.now c.args.self.now.intact c.if-x-eq0.false)).0 in omega arith
 
 pub overflow_add-tokens : goal.overflow_add-tokens
-overflow_add-tokens c = let f = (few c.args.self.now.region (opened_some c.args.self.now.region c.args.self.now.intact c.if-x-eq0.false)).0 in omega arith
+overflow_add-tokens c = let f = (few c.args.self.now.region.now (opened_some c.args.self.now.region.now c.args.self.now.intact c.if-x-eq0.false)).0 in omega arith
 
 pub overflow_mul-tokens-2 : goal.overflow_mul-tokens-2
-overflow_mul-tokens-2 c = let f = (few c.args.self.now.region (opened_some c.args.self.now.region c.args.self.now.intact c.if-x-eq0.false)).1 in omega arith
+overflow_mul-tokens-2 c = let f = (few c.args.self.now.region.now (opened_some c.args.self.now.region.now c.args.self.now.intact c.if-x-eq0.false)).1 in omega arith
 
 pub overflow_add-tokens-2 : goal.overflow_add-tokens-2
 overflow_add-tokens-2 c =
-    let f = (few c.args.self.now.region (opened_some c.args.self.now.region c.args.self.now.intact c.if-x-eq0.false)).0 in
-    let g = (few c.args.self.now.region (opened_some c.args.self.now.region c.args.self.now.intact c.if-x-eq0.false)).1 in
+    let f = (few c.args.self.now.region.now (opened_some c.args.self.now.region.now c.args.self.now.intact c.if-x-eq0.false)).0 in
+    let g = (few c.args.self.now.region.now (opened_some c.args.self.now.region.now c.args.self.now.intact c.if-x-eq0.false)).1 in
     omega arith
 
 pub overflow_add-result : goal.overflow_add-result
-overflow_add-result c = let s = small c.args.self.now.region (opened_some c.args.self.now.region c.args.self.now.intact c.if-x-eq0.false) in omega arith
+overflow_add-result c = let s = small c.args.self.now.region.now (opened_some c.args.self.now.region.now c.args.self.now.intact c.if-x-eq0.false) in omega arith
 
 pub overflow_sub-result : goal.overflow_sub-result
-overflow_sub-result c = let w = weighs c.args.self.now.region (opened_some c.args.self.now.region c.args.self.now.intact c.if-x-eq0.false) in omega arith
+overflow_sub-result c = let w = weighs c.args.self.now.region.now (opened_some c.args.self.now.region.now c.args.self.now.intact c.if-x-eq0.false) in omega arith
 
 pub returns : goal.returns
 returns c =
-    let o = opened_some c.args.self.now.region c.args.self.now.intact c.if-x-eq0.false in
-    let w = weighs c.args.self.now.region o in
+    let o = opened_some c.args.self.now.region.now c.args.self.now.intact c.if-x-eq0.false in
+    let w = weighs c.args.self.now.region.now o in
     record { nodes = o.nodes; properties = o.properties; weight = omega arith }
