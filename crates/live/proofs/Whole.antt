@@ -3,6 +3,7 @@ use Rattle.std.proofs.Common.{◌≡◌, ℕ, true, List, [], ◌∷◌, length,
 use Rattle.tape.specs.Nodes.{Node, valid}
 use Rattle.tape.specs.Tapes.{weight_of}
 use Rattle.live.specs.declared.live_store.Live.{Live}
+use Rattle.live.specs.declared.live_store.View.{View}
 use Rattle.live.specs.declared.memory.Memory.{Memory}
 use Rattle.live.specs.declared.memory.NodeRecord.{NodeRecord}
 use Rattle.live.specs.declared.memory.PropertyRecord.{PropertyRecord}
@@ -55,4 +56,14 @@ whole s = record {
   weight = s.weight;
   room = s.room;
   sound = s.sound;
+}
+
+pub viewed : (v : View) → Whole v.memory.now
+viewed v = record {
+  rows = rows-only _ _ v.rows;
+  cells = cells-only _ _ v.cells;
+  bytes = v.bytes;
+  weight = v.weight;
+  room = v.room;
+  sound = v.sound;
 }

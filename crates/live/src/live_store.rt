@@ -1,8 +1,8 @@
 // The live store as a tape of nodes.
-ghost use Rattle.std.specs.Prelude.{◌≡◌, true, refl};
+ghost use Rattle.std.specs.Prelude.{◌≡◌, ◌+◌, true, refl};
 ghost use Rattle.live.specs.Records.{held, flat_rows, flat_cells, rows_of, cells_of, bytes_of, used_rows, used_cells, used_bytes, room_for, spot_in, mark_in};
 ghost use Rattle.tape.specs.Nodes.{valid};
-ghost use Rattle.tape.specs.Tapes.{weight_of};
+ghost use Rattle.tape.specs.Tapes.{Here, On, Reads, nth, property_of, weight_of};
 
 pub mod calls;
 
@@ -19,6 +19,102 @@ pub struct Live<'a> {
     pub ghost weight: { memory.weight ≡ weight_of (held memory) },
     pub ghost room: { room_for memory ≡ true },
     pub ghost sound: { valid memory.boot (held memory) ≡ true },
+}
+
+// The same memory, lent to be read.
+#[derive(Clone, Copy)]
+pub struct View<'r, 'a> {
+    pub memory: &'r Memory<'a>,
+    pub ghost rows: { flat_rows (rows_of (held memory.now)) ≡ flat_rows (used_rows memory.now) },
+    pub ghost cells: { flat_cells (cells_of (held memory.now)) ≡ flat_cells (used_cells memory.now) },
+    pub ghost bytes: { bytes_of (held memory.now) ≡ used_bytes memory.now },
+    pub ghost weight: { memory.now.weight ≡ weight_of (held memory.now) },
+    pub ghost room: { room_for memory.now ≡ true },
+    pub ghost sound: { valid memory.now.boot (held memory.now) ≡ true },
+}
+
+impl<'r> View<'r, '_> {
+    // The node at a spot.
+    pub fn head(&self, s: Spot) -> Head
+        requires { Here (held self.now.memory.now) (spot_in (held self.now.memory.now)) s }
+        ensures { Reads (held self.now.memory.now) (spot_in (held self.now.memory.now)) (mark_in (held self.now.memory.now)) s result }
+    {
+        let memory = self.memory;
+        let r = memory.nodes.items[s.node];
+        let at = s.at + r.name;
+        let first = Mark {
+            node: s.node,
+            number: 0,
+            property: s.property,
+            at,
+        };
+        let next = Spot {
+            node: s.node + 1,
+            property: s.property + r.properties,
+            at: at + r.bytes,
+        };
+        Head {
+            depth: r.depth,
+            properties: r.properties,
+            first,
+            next,
+        }
+    }
+
+    // The name of a node.
+    pub fn name(&self, s: Spot) -> &'r [u8]
+        requires { Here (held self.now.memory.now) (spot_in (held self.now.memory.now)) s }
+        ensures { result.now ≡ (nth (held self.now.memory.now) s.node).name }
+    {
+        let memory = self.memory;
+        let r = memory.nodes.items[s.node];
+        memory.pool.part(s.at, r.name)
+    }
+
+    // The mark behind a property's.
+    pub fn behind(&self, m: Mark) -> Mark
+        requires { On (held self.now.memory.now) (mark_in (held self.now.memory.now)) m }
+        ensures { result ≡ mark_in (held self.now.memory.now) m.node (m.number + 1) }
+    {
+        let memory = self.memory;
+        let r = memory.properties.items[m.property];
+        Mark {
+            node: m.node,
+            number: m.number + 1,
+            property: m.property + 1,
+            at: m.at + r.name + r.value,
+        }
+    }
+
+    // The name of a property.
+    pub fn property_name(&self, m: Mark) -> &'r [u8]
+        requires { On (held self.now.memory.now) (mark_in (held self.now.memory.now)) m }
+        ensures { result.now ≡ (property_of (held self.now.memory.now) m.node m.number).0 }
+    {
+        let memory = self.memory;
+        let r = memory.properties.items[m.property];
+        memory.pool.part(m.at, r.name)
+    }
+
+    // The value of a property.
+    pub fn value(&self, m: Mark) -> &'r [u8]
+        requires { On (held self.now.memory.now) (mark_in (held self.now.memory.now)) m }
+        ensures { result.now ≡ (property_of (held self.now.memory.now) m.node m.number).1 }
+    {
+        let memory = self.memory;
+        let r = memory.properties.items[m.property];
+        memory.pool.part(m.at + r.name, r.value)
+    }
+}
+
+impl Live<'_> {
+    fn view(&self) -> View<'_, '_>
+        ensures { result.memory.now ≡ self.now.memory }
+    {
+        View {
+            memory: &self.memory,
+        }
+    }
 }
 
 impl Tape for Live<'_> {
@@ -57,50 +153,23 @@ impl Tape for Live<'_> {
     }
 
     fn head(&self, s: Spot) -> Head {
-        let r = self.memory.nodes.items[s.node];
-        let at = s.at + r.name;
-        let first = Mark {
-            node: s.node,
-            number: 0,
-            property: s.property,
-            at,
-        };
-        let next = Spot {
-            node: s.node + 1,
-            property: s.property + r.properties,
-            at: at + r.bytes,
-        };
-        Head {
-            depth: r.depth,
-            properties: r.properties,
-            first,
-            next,
-        }
+        self.view().head(s)
     }
 
     fn name(&self, s: Spot) -> &[u8] {
-        let r = self.memory.nodes.items[s.node];
-        self.memory.pool.part(s.at, r.name)
+        self.view().name(s)
     }
 
     fn behind(&self, m: Mark) -> Mark {
-        let r = self.memory.properties.items[m.property];
-        Mark {
-            node: m.node,
-            number: m.number + 1,
-            property: m.property + 1,
-            at: m.at + r.name + r.value,
-        }
+        self.view().behind(m)
     }
 
     fn property_name(&self, m: Mark) -> &[u8] {
-        let r = self.memory.properties.items[m.property];
-        self.memory.pool.part(m.at, r.name)
+        self.view().property_name(m)
     }
 
     fn value(&self, m: Mark) -> &[u8] {
-        let r = self.memory.properties.items[m.property];
-        self.memory.pool.part(m.at + r.name, r.value)
+        self.view().value(m)
     }
 
     fn insert_node(&mut self, s: Spot, depth: usize, name: &[u8]) {
