@@ -1,7 +1,9 @@
 -- The least of the names behind one, and the names of children and of properties. Assumes nothing.
-use Rattle.std.proofs.Common.{◌≡◌, ℕ, ◌+◌, ◌<◌, ◌≤◌, true, false, cond, eqb, leb, List, [], ◌∷◌, length, get_or, drop, Some, None, Option, sym, refl, ap, ◌∙◌, arith, Bool, map, Ordering, Less, Equal, Greater, Bor}
+use Rattle.std.proofs.Common.{◌≡◌, ℕ, ◌+◌, ◌<◌, ◌≤◌, true, false, cond, eqb, leb, List, [], ◌∷◌, length, get_or, drop, Some, None, Option, sym, refl, ap, ◌∙◌, subst, arith, Bool, map, Ordering, Less, Equal, Greater, Bor}
 use Rattle.std.specs.Cmp.Lexicographic.{lists_agrees, slice_partial_cmp}
-use Rattle.std.specs.List.{filter, fold, reduce}
+use Rattle.std.specs.Fn.{Called, Mut}
+use Rattle.std.specs.Iterator.{PickTurn, PicksByCall, PicksByCmp}
+use Rattle.std.specs.List.{FoldsTo, filter, fold, reduce}
 use Rattle.std.specs.Option.{option_map}
 use Rattle.std.specs.Ordering.{is_lt, is_some_and, min_by_ordering, nat_cmp, ordering_reverse}
 use Rattle.std.proofs.lemmas.Bool.{true≢false, cond-true, cond-false, le-leb, lt-leb, eq-eqb, ne_eqb, false_from_ne_true}
@@ -14,6 +16,8 @@ use Rattle.tape.specs.declared.Spot.{Spot}
 use Rattle.tape.specs.Iters.{children_in, entries}
 use Rattle.tape.specs.Nodes.{Node, Property}
 use Rattle.nexts.specs.Kids.{kids, keys, shown_name}
+use Rattle.std.proofs.lemmas.Iterator.{YieldsList}
+use Rattle.std.proofs.lemmas.Iterator.Consumers.{reduce_by_from_yields_List}
 use Rattle.std.proofs.lemmas.List.{at_drop_more, at_drop_all}
 use Rattle.tape.specs.Tapes.{nowhere, nth}
 
@@ -98,6 +102,28 @@ pub picks_lesser : (a b : Bor Bytes) (r : Ordering) → (min_by_ordering r a b).
 picks_lesser a b Less = refl
 picks_lesser a b Equal = refl
 picks_lesser a b Greater = refl
+
+-- the least by calls of a value that answers by the order of names, and keeps no state
+module _ {S F : Type 0} {steps : S → Option (Bor Bytes) → S → Type 0} {g : Mut F (Bor (Bor Bytes) × (Bor (Bor Bytes) × Unit {0})) Ordering} {f : F} {all : List Bytes} (s : S) (r : Option (Bor Bytes)) (road : YieldsList steps (λ x. x.now) s all)
+    (ran : PicksByCall steps min_by_ordering g s f r) (answers : (v w : Bor (Bor Bytes)) (o : Ordering) (q : F) → Called g f (v, (w, tt)) o q → (q ≡ f) × (o ≡ name_order v.now.now w.now.now)) where
+  abbrev cmp : Bor Bytes → Bor Bytes → Ordering
+  cmp a b = name_order a.now b.now
+
+  turns : (xs : List (Bor Bytes)) (p q : F × Bor Bytes) → p.0 ≡ f → FoldsTo {P = F × Bor Bytes} (PickTurn min_by_ordering g) p xs q → FoldsTo (λ best x next. next ≡ min_by_ordering (cmp best x) best x) p.1 xs q.1
+  turns [] p q a c = ap (λ z. z.1) c
+  turns (x ∷ xs) p q a c =
+      let y = c.1.1 in
+      let m = answers y.first y.second c.1.0 c.0.0 (subst (λ z. Called g z (y.first, (y.second, tt)) c.1.0 c.0.0) a y.called) in
+      (c.0.1, c.1.2 ∙ ap (λ o. min_by_ordering o p.1 x) (m.1 ∙ (λ j. cmp (y.shows.0 j) (y.shows.1 j))), turns xs c.0 q m.0 c.2)
+
+  picked : (r : Option (Bor Bytes)) → PicksByCall steps min_by_ordering g s f r → PicksByCmp steps min_by_ordering cmp s r
+  picked None h = h
+  picked (Some y) h = (h.0, h.1, h.3, turns h.1 (f, h.0) (h.2, y) refl h.4)
+
+  pub picks-least : shown_name r ≡ reduce lesser all
+  picks-least =
+      sym (shown-is r)
+      ∙ reduce_by_from_yields_List (λ a b. min_by_ordering (cmp a b) a b) lesser s r (λ a b. picks_lesser a b (cmp a b)) (picked r ran) road
 
 -- ---- the names of children, one node further
 

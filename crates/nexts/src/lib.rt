@@ -12,10 +12,11 @@ ghost use Rattle.tape.specs.Tapes.{Here, shown};
 ghost use Rattle.nexts.specs.Kids.{Held, LeastAt, shown_name};
 
 use names::names::{is_node_name, is_property_name};
+use names::paths::compare_names;
 use store::{NAME_ROOM, Refusal};
 use tape::iters::{children_of, properties_of};
 use tape::questions::put_front;
-use tape::search::open_named;
+use tape::search::open_named_with;
 use tape::{Spot, Tape};
 
 // The parts of a node that are gone over by their names: a name's rule, and the names that a place gives.
@@ -77,8 +78,8 @@ fn least_name<'a, P: Drop, I: Iterator<Item = (P, &'a [u8])>>(
 {
     parts
         .map(|(_, name)| name)
-        .filter(|name| after < *name)
-        .min()
+        .filter(|name| compare_names(after, name).is_lt())
+        .min_by(|a, b| compare_names(a, b))
 }
 
 // Whether a name may be asked after: the empty one starts.
@@ -98,7 +99,7 @@ fn find_next<'a, K: Parts, T: Tape>(
     ensures name { shown result ≡ next_name K.rule K.on (meaning_of (T.Tape.boot t.now) (T.Tape.nodes t.now)) path.now after.now room }
     ensures held { Held (shown result) room }
 {
-    let Some(at) = open_named(t, path, may_follow::<K>(after))? else {
+    let Some(at) = open_named_with(t, path, || may_follow::<K>(after))? else {
         return Err(Refusal::Absent);
     };
     if room < NAME_ROOM {

@@ -1,5 +1,5 @@
 // Where a node or a property is.
-ghost use Rattle.std.specs.Prelude.{◌≡◌, ◌+◌, ◌<◌, true, length, drop, MatchResult};
+ghost use Rattle.std.specs.Prelude.{◌≡◌, ◌+◌, ◌<◌, Bool, true, length, drop, MatchResult};
 ghost use Rattle.names.specs.Paths.{path_text, stem};
 ghost use Rattle.store.specs.declared.Refusal.TheVariants.{Closed};
 ghost use Rattle.tape.specs.Nodes.{child_in, property_in};
@@ -68,20 +68,28 @@ pub fn opened<T: Tape>(t: &T) -> Result<(), Refusal>
 pub fn open_node<T: Tape>(t: &T, path: &[u8]) -> Result<Option<Spot>, Refusal>
     ensures { Opened (T.Tape.nodes t.now) (T.Tape.spot t.now) path.now true result }
 {
-    opened(t)?;
-    if !is_path(path) {
-        return Err(Refusal::BadName);
-    }
-    Ok(find_node(t, path))
+    open_named(t, path, true)
 }
 
 // The same for a call with another name, which is by its rule where `named` says so. A closed tape is refused before a bad name.
 pub fn open_named<T: Tape>(t: &T, path: &[u8], named: bool) -> Result<Option<Spot>, Refusal>
     ensures { Opened (T.Tape.nodes t.now) (T.Tape.spot t.now) path.now named result }
 {
+    open_named_with(t, path, || named)
+}
+
+// The same, where `named` looks at a name that may be long: not before the tape is open and the path is by its rule.
+pub fn open_named_with<T: Tape, N: FnOnce() -> bool>(
+    t: &T,
+    path: &[u8],
+    named: N,
+) -> Result<Option<Spot>, Refusal>
+    requires { N.IsAlwaysCallable named }
+    ensures { (b : Bool) → ((r : Bool) → N.post named r → r ≡ b) → Opened (T.Tape.nodes t.now) (T.Tape.spot t.now) path.now b result }
+{
     opened(t)?;
-    if !named {
+    if !is_path(path) || !named() {
         return Err(Refusal::BadName);
     }
-    open_node(t, path)
+    Ok(find_node(t, path))
 }
