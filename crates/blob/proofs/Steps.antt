@@ -1,10 +1,9 @@
 -- The tokens. Assumes nothing.
-use Rattle.std.proofs.Common.{◌≡◌, ℕ, ◌+◌, ◌-◌, ◌≤◌, ◌==◌, leb, List, take, IfSome, Some, None, Option, sym, subst, arith, leb-true}
+use Rattle.std.proofs.Common.{◌≡◌, ℕ, ◌+◌, ◌-◌, ◌<◌, ◌≤◌, leb, List, length, take, IfSome, Some, None, Option, sym, subst, arith, leb-true}
 use Rattle.std.proofs.lemmas.Bool.{cond_both}
 use Rattle.std.proofs.lemmas.Bool.Decides.{nat_tests}
-use Rattle.std.specs.List.{between, position}
-use Rattle.std.specs.Option.{option_map}
-use Rattle.names.proofs.Words.{before-first}
+use Rattle.std.specs.List.{between}
+use Rattle.names.specs.Names.{before}
 use Rattle.tree.specs.Numbers.{be32, pad4}
 use Rattle.blob.specs.Tokens.{Tok, tok_of, step_of, property, text_at, on_text, within, begin_at, property_at, token_at}
 use Rattle.blob.specs.declared.types.Layout.{Layout}
@@ -14,10 +13,15 @@ pub text-none : (bs : List ℕ) (from to : ℕ) → to ≤ from → None ≡ tex
 unfolding text_at
 text-none bs from to h = let z : to - from ≡ 0 = omega arith in rw z
 
--- the text of a part, by its first zero byte
-pub text-first : (bs part : List ℕ) (from to : ℕ) (o : Option ℕ) → part ≡ between from to bs → o ≡ position (λ b. b == 0) part → option_map (λ n. take n part) o ≡ text_at bs from to
-unfolding text_at
-text-first bs part from to o e f = let k = before-first 0 part in grind (arith, nat_tests)
+-- the text of a part, by how many bytes come before its first zero byte
+module _ (bs part : List ℕ) (from to n : ℕ) (is : part ≡ between from to bs) (e : n ≡ before 0 part) where
+  pub text-first : n < length part → Some (take n part) ≡ text_at bs from to
+  unfolding text_at
+  text-first l = grind (arith, nat_tests)
+
+  pub text-open : length part ≤ n → None ≡ text_at bs from to
+  unfolding text_at
+  text-open l = grind (arith, nat_tests)
 
 -- a token has four bytes at least, and ends within the block
 abbrev pub Bounded : ℕ → ℕ → Option (Tok × ℕ) → Type 0

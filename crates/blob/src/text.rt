@@ -3,6 +3,8 @@ ghost use Rattle.std.specs.Prelude.{◌≡◌, ◌+◌, ◌<◌, ◌≤◌, leng
 ghost use Rattle.names.specs.Names.{before};
 ghost use Rattle.blob.specs.Tokens.{bytes_of, text_at};
 
+use names::names::find;
+
 // The bytes from `from` up to the first zero byte, which stands before `to`.
 pub fn text_at(bytes: &[u8], from: usize, to: usize) -> Option<&[u8]>
     requires { to ≤ length bytes.now }
@@ -10,6 +12,10 @@ pub fn text_at(bytes: &[u8], from: usize, to: usize) -> Option<&[u8]>
     ensures short { IfSome result (λ s. from + length s.now < to) }
 {
     let part = bytes.get(from..to)?;
-    let n = part.iter().position(|b| *b == 0)?;
-    Some(&part[..n])
+    let n = find(part, 0);
+    if n < part.len() {
+        Some(&part[..n])
+    } else {
+        None
+    }
 }

@@ -1,4 +1,5 @@
 pub mod Bytes
+pub mod Chunks
 pub mod NameLaws
 pub mod Orders
 pub mod PathLaws

@@ -27,12 +27,12 @@ before-first b (x ∷ s) = let h = before-first b s in grind (arith, nat_tests)
 pub before-position : (b : ℕ) (s : List ℕ) → unwrap_or (position (λ x. x == b) s) (length s) ≡ before b s
 before-position b s = unless_first (λ x. x == b) s ∙ before-first b s
 
+pub run-first : (p : ℕ → Bool) (s : List ℕ) → position_or_len (λ x. not (p x)) s ≡ prefix_len p s
+run-first p [] = refl
+run-first p (x ∷ s) = let h = run-first p s in grind (arith, nat_tests)
+
 pub run-position : (p : ℕ → Bool) (s : List ℕ) → unwrap_or (position (λ x. not (p x)) s) (length s) ≡ prefix_len p s
-run-position p s = unless_first (λ x. not (p x)) s ∙ go s
-  where
-    go : (s : List ℕ) → position_or_len (λ x. not (p x)) s ≡ prefix_len p s
-    go [] = refl
-    go (x ∷ s) = let h = go s in grind (arith, nat_tests)
+run-position p s = unless_first (λ x. not (p x)) s ∙ run-first p s
 
 -- the run is the whole list where each passes
 pub each-run : (p : ℕ → Bool) (s : List ℕ) → each p s ≡ eqb (prefix_len p s) (length s)

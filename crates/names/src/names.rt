@@ -12,12 +12,19 @@ const LONGEST: usize = 31;
 // What parts the two words of a node name.
 const AT: u8 = b'@';
 
-// How many bytes come before the first `b`; all of them where there is none.
+// How many bytes come before the first `b`; all of them where there is none. It takes eight bytes a turn, since a reader spends much of its time here.
 pub fn find(s: &[u8], b: u8) -> usize
     ensures within { result ≤ length s.now }
     ensures value { result ≡ before b s.now }
 {
-    s.iter().position(|x| *x == b).unwrap_or(s.len())
+    let (eights, rest) = s.as_chunks::<8>();
+    for (i, eight) in eights.iter().enumerate() {
+        if let Some(k) = eight.iter().position(|x| *x == b) {
+            return 8 * i + k;
+        }
+    }
+    let k = rest.iter().position(|x| *x == b).unwrap_or(rest.len());
+    s.len() - rest.len() + k
 }
 
 // Whether two texts have the same bytes: `==` in the words of the rules.
@@ -55,12 +62,19 @@ impl Alphabet for OfProperties {
     }
 }
 
-// How many bytes of the alphabet `s` begins with.
+// How many bytes of the alphabet `s` begins with. It takes four bytes a turn, since most of a reader's time on names is spent here.
 fn run<A: Alphabet>(s: &[u8]) -> usize
     ensures within { result ≤ length s.now }
     ensures value { result ≡ prefix_len A.Alphabet.holds s.now }
 {
-    s.iter().position(|b| !A::has(*b)).unwrap_or(s.len())
+    let (quads, rest) = s.as_chunks::<4>();
+    for (i, quad) in quads.iter().enumerate() {
+        if let Some(k) = quad.iter().position(|b| !A::has(*b)) {
+            return 4 * i + k;
+        }
+    }
+    let k = rest.iter().position(|b| !A::has(*b)).unwrap_or(rest.len());
+    s.len() - rest.len() + k
 }
 
 fn is_word_length(n: usize) -> bool
