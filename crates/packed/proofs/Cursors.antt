@@ -1,12 +1,12 @@
 -- Tokens that stand in the memory from some byte on. Assumes nothing.
-use Rattle.std.proofs.Common.{◌≡◌, ℕ, zero, suc, ◌+◌, ◌-◌, ◌^◌, ◌<◌, ◌≤◌, List, [], ◌∷◌, ◌++◌, length, get_or, take, drop, replicate, sym, refl, ap, ◌∙◌, append_assoc, add-zero, add_assoc, arith}
-use Rattle.std.proofs.lemmas.List.{get_or-drop, drop_at, drop-drop, take-append-drop}
+use Rattle.std.proofs.Common.{◌≡◌, ℕ, zero, suc, ◌+◌, ◌-◌, ◌^◌, ◌<◌, ◌≤◌, List, [], ◌∷◌, ◌++◌, length, get_or, take, drop, replicate, sym, refl, ap, ◌∙◌, append_assoc, add-zero, add_assoc, arith, length-append}
+use Rattle.std.proofs.lemmas.List.{get_or-drop, drop_at, drop-drop, take_at, take-append-drop, length-drop}
 use Rattle.std.specs.List.{between, AllByRecursion}
 use Rattle.names.specs.Names.{before}
 use Rattle.tree.specs.Numbers.{be32, bytes32, pad4}
 use Rattle.tree.specs.Places.{Bytes}
 use Rattle.blob.specs.Tokens.{Tok, begin, property, end, nop, finish}
-use Rattle.packed.specs.Packing.{token_bytes, name_size, structure, strings, size_of, names_of, packed}
+use Rattle.packed.specs.Packing.{token_bytes, token_size, name_size, structure, strings, size_of, names_of, packed}
 use Rattle.packed.specs.Regions.{memory, Holding, At, IsFull}
 use Rattle.packed.specs.declared.region.Region.{Region}
 use Rattle.packed.proofs.Tokens.{size_is, names-is, structure_join, strings_join, size_join, names_join}
@@ -35,6 +35,13 @@ kind_of end = 2
 kind_of nop = 4
 kind_of finish = 9
 
+pub least_size : (t : Tok) → 4 ≤ token_size t
+least_size (begin name) = omega arith
+least_size (property name value) = omega arith
+least_size end = omega arith
+least_size nop = omega arith
+least_size finish = omega arith
+
 first_word : (k : ℕ) (t : Tok) (ys : Bytes) → be32 (token_bytes k t ++ ys) 0 ≡ kind_of t
 unfolding be32
 first_word k (begin name) ys = refl
@@ -51,6 +58,11 @@ module _ (bs : Bytes) (p k : ℕ) (rest : Bytes) where
   pub kind_at : (t : Tok) (ts : List Tok) → At bs p k (t ∷ ts) rest → be32 bs p ≡ kind_of t
   kind_at t ts h =
       ap (be32 bs) (sym (add-zero p)) ∙ be32-drop bs p 0 ∙ ap (λ z. be32 z 0) (at_one t ts h) ∙ first_word k t (structure (k + name_size t) ts ++ rest)
+
+  pub inside-at : (ts : List Tok) → At bs p k ts rest → 1 ≤ size_of ts → p + size_of ts ≤ length bs
+  inside-at ts h one =
+      let a : length bs - p ≡ size_of ts + length rest = sym (length-drop p bs) ∙ ap length h ∙ length-append (structure k ts) rest ∙ ap (λ n. n + length rest) (size_is k ts) in
+      omega arith
 
   pub pass-at : (ts us : List Tok) → At bs p k (ts ++ us) rest → At bs (p + size_of ts) (k + names_of ts) us rest
   pass-at ts us h =
@@ -100,6 +112,11 @@ pub text-length : (bs name tail : Bytes) (from to : ℕ) → drop from bs ≡ na
 text-length bs name tail from to h l f =
     let r = take-over (to - from) name tail (omega arith) in
     ap (before 0) (ap (take (to - from)) h ∙ r.1) ∙ before-is name r.0 f
+
+pub text-is : (bs name tail : Bytes) (from n : ℕ) → drop from bs ≡ name ++ (0 ∷ tail) → n ≡ length name → between from (from + n) bs ≡ name
+text-is bs name tail from n h e =
+    let z : from + n - from ≡ n = omega arith in
+    ap (λ j. take j (drop from bs)) z ∙ ap (take n) h ∙ take_at name (0 ∷ tail) n (sym e)
 
 -- ---- cursors
 
