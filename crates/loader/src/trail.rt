@@ -8,7 +8,8 @@ use names::paths::{SLASH, parent_of, stem_len};
 use store::Refusal;
 use tree::counts::MAX_PATH;
 
-// The first `len` bytes are the path. It begins with a slash and has at most 255 bytes.
+// The first `len` bytes are the path. It begins with a slash and has at most 255 bytes. An array with a length beside it, since it is `Copy`,
+// which an `ArrayVec` is not.
 #[derive(Clone, Copy)]
 pub struct Trail {
     pub bytes: [u8; 256],
